@@ -1,0 +1,4 @@
+//! Names and limits: what every other crate stands on.
+#![tactic(auto)]
+
+pub mod name;

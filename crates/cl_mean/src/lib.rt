@@ -1,0 +1,4 @@
+//! What a checked source is, and the definitions of its meaning.
+#![tactic(auto)]
+
+pub mod checked;
