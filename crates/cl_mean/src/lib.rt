@@ -2,3 +2,5 @@
 #![tactic(auto)]
 
 pub mod checked;
+pub mod outcome;
+pub mod state;

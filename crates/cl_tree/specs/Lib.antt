@@ -1,0 +1,12 @@
+pub mod Arithmetic
+pub mod Directives
+pub mod Items
+pub mod Joins
+pub mod Literals
+pub mod Pieces
+pub mod Reading
+pub mod Runs
+pub mod Spelling
+pub mod Statements
+pub mod Tokens
+pub mod Words

@@ -1,0 +1,10 @@
+use Rattle.std.proofs.Common.{◌≤◌, ◌-◌, ◌+◌, vec_len}
+use Rattle.std.specs.Io.KnownBytes.{Consumes}
+use Rattle.cl_base.proofs.host.read_up_to.Given as goal
+
+abbrev pub invariant-loop-piece : goal.invariant-loop-piece
+invariant-loop-piece g l =
+    (vec_len l.bytes ≤ l.limit + 1) × Consumes (g.F.Read.remaining l.fn.from) (g.F.Read.remaining l.from) l.bytes.items
+
+abbrev pub decreases-loop-piece : goal.decreases-loop-piece
+decreases-loop-piece g l = l.limit + 1 - vec_len l.bytes

@@ -1,0 +1,9 @@
+pub mod Turns
+pub mod Marks
+pub mod Sound
+pub mod Complete
+pub mod Main
+pub mod Numbers
+pub mod Scanning
+pub mod FirstLine
+pub mod Whole

@@ -1,0 +1,5 @@
+pub mod Tokens
+pub mod Written
+pub mod Form
+pub mod Reading
+pub mod Scanning

@@ -1,0 +1,35 @@
+-- A run has one expected answer.
+use Rattle.std.proofs.Common.{◌≡◌, ◌≤◌, ◌<◌, ℕ, List, Option, None, Some, length, ap, sym, ◌∙◌, arith, subst}
+use Rattle.cl_base.specs.Outside.{Held, file_of}
+use Rattle.cl_mean.specs.declared.checked.Checked.{Checked}
+use Rattle.cl_form.proofs.Whole.{form_one}
+use Rattle.cl_job.specs.declared.texts.Rule.TheVariants.{SourceTooLong, NoReading}
+use Rattle.cl_job.specs.Answer.{Verdict, Accepted, Refused, IsVerdict, Answer, answer_of, SourceGives, IsExpected}
+use Rattle.cl_job.specs.Words.{RunAsked}
+
+-- no source is too short and too long
+apart : (source : List ℕ) → length source ≤ 1048576 → 1048576 < length source → ⊥
+apart source short long = omega arith
+
+pub verdict_one : (source : List ℕ) (v w : Verdict) → IsVerdict source v → IsVerdict source w → v ≡ w
+verdict_one source (Accepted c) (Accepted d) p q = ap (λ (x : Checked). Accepted x) (form_one source c d p.1 q.1)
+verdict_one source (Accepted c) (Refused SourceTooLong line) p q = absurd (apart source p.0 q.0)
+verdict_one source (Accepted c) (Refused NoReading line) p q = absurd (q.2 c p.1)
+verdict_one source (Refused SourceTooLong line) (Accepted d) p q = absurd (apart source q.0 p.0)
+verdict_one source (Refused SourceTooLong line) (Refused SourceTooLong line') p q = ap (λ n. Refused SourceTooLong n) (p.1 ∙ sym q.1)
+verdict_one source (Refused SourceTooLong line) (Refused NoReading line') p q = absurd (apart source q.0 p.0)
+verdict_one source (Refused NoReading line) (Accepted d) p q = absurd (p.2 d q.1)
+verdict_one source (Refused NoReading line) (Refused SourceTooLong line') p q = absurd (apart source p.0 q.0)
+verdict_one source (Refused NoReading line) (Refused NoReading line') p q = ap (λ n. Refused NoReading n) (p.1 ∙ sym q.1)
+
+pub source_one : (source : List ℕ) (a b : Answer) → SourceGives source a → SourceGives source b → a ≡ b
+source_one source a b p q = p.is ∙ (ap answer_of (verdict_one source p.verdict q.verdict p.judged q.judged) ∙ sym q.is)
+
+-- two texts that a file holds are one
+same_source : (files : Held) (path source source' : List ℕ) → file_of files path ≡ Some source → file_of files path ≡ Some source' → source' ≡ source
+same_source files path source source' p q = cc
+
+pub answer_one : (files : Held) (asked : Option RunAsked) (a b : Answer) → IsExpected (Some files) asked a → IsExpected (Some files) asked b → a ≡ b
+answer_one files None a b p q = p ∙ sym q
+answer_one files (Some run) a b p q =
+    source_one p.source a b p.gives (subst (λ (s : List ℕ). SourceGives s b) (same_source files run.source p.source q.source p.held q.held) q.gives)

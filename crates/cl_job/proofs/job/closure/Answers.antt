@@ -1,0 +1,7 @@
+-- Words without a reading are answered by the usage text.
+use Rattle.cl_job.proofs.Answers.{usage_answered}
+use Rattle.cl_job.proofs.job.closure.Goals as goal
+
+pub returns-in-None-clause-answered : goal.returns-in-None-clause-answered
+returns-in-None-clause-answered g c =
+    λ _. usage_answered _ _ _ _ _ _ _ _ c.in-None.ensures c.explain.ensures.status c.explain.ensures.text

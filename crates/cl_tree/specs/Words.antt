@@ -1,0 +1,131 @@
+-- The words that are no names, the spellings of types, and what can come out of a source.
+use Rattle.std.specs.Prelude.{ℕ, ◌^◌, List, [], ◌∷◌, ◌++◌, map, length, Option, Some, None, is_none, Bool, true, false, not, ◌&&◌, ◌||◌, ◌==◌, nat_lt, nat_le, if◌then◌else◌, bytes_eq, codes}
+use Rattle.cl_tree.specs.declared.kinds.IntKind.{IntKind}
+use Rattle.cl_tree.specs.declared.kinds.IntKind.TheVariants.{I8, U8, I16, U16, I32, U32, Long, ULong, LLong, ULLong}
+use Rattle.cl_tree.specs.declared.token.Pragma.{Pragma}
+use Rattle.cl_tree.specs.declared.token.Pragma.TheVariants as pragma
+use Rattle.cl_tree.specs.declared.grammar.Keyword.{Keyword}
+use Rattle.cl_tree.specs.declared.grammar.Sign.{Sign}
+use Rattle.cl_tree.specs.declared.grammar.Sign.TheVariants as sign
+use Rattle.cl_tree.specs.declared.grammar.TheConstants.{KEYWORDS, TYPE_WORDS, KINDS, REALS}
+
+-- a name, or a text, by its bytes
+abbrev pub Word : Type 0
+Word = List ℕ
+
+-- what a table has first under a word
+abbrev pub entry : {A : Type 0} → List (Word × A) → Word → Option A
+entry [] word = None
+entry (row ∷ rows) word = if bytes_eq row.0 word then Some row.1 else entry rows word
+
+abbrev pub listed : List Word → Word → Bool
+listed [] word = false
+listed (w ∷ ws) word = bytes_eq w word || listed ws word
+
+unfoldable pub keyword : Word → Option Keyword
+keyword = entry (map (λ row. (row.0.now, row.1)) KEYWORDS)
+
+unfoldable pub is_type_word : Word → Bool
+is_type_word = listed (map (λ w. w.now) TYPE_WORDS)
+
+-- the kind that a run of type words spells, given with one space between two words
+unfoldable pub kind_of : Word → Option IntKind
+kind_of = entry (map (λ row. (row.0.now, row.1)) KINDS)
+
+unfoldable pub is_real : Word → Bool
+is_real = listed (map (λ w. w.now) REALS)
+
+abbrev pub spelled_kind : Option IntKind → Bool → Sign
+spelled_kind (Some kind) real = sign.Kind kind
+spelled_kind None true = sign.Real
+spelled_kind None false = sign.NoType
+
+unfoldable pub spelled_type : Word → Sign
+spelled_type text = spelled_kind (kind_of text) (is_real text)
+
+abbrev pub named : Word → Option Keyword → Sign
+named word (Some k) = sign.Key k
+named word None = sign.Name word
+
+unfoldable pub spelled_word : Word → Sign
+spelled_word word = named word (keyword word)
+
+-- ---- what a source can bring
+
+abbrev pub is_letter : ℕ → Bool
+is_letter b = (nat_le 65 b && nat_le b 90) || ((nat_le 97 b && nat_le b 122) || b == 95)
+
+abbrev pub is_digit : ℕ → Bool
+is_digit b = nat_le 48 b && nat_le b 57
+
+abbrev pub each : (ℕ → Bool) → Word → Bool
+each test [] = true
+each test (b ∷ bs) = test b && each test bs
+
+-- a letter or `_`, then letters, digits and `_`
+unfoldable pub is_name : Word → Bool
+is_name [] = false
+is_name (b ∷ bs) = is_letter b && each (λ c. is_letter c || is_digit c) bs
+
+-- neither a keyword nor a type word
+unfoldable pub is_free : Word → Bool
+is_free word = is_none (keyword word) && not (is_type_word word)
+
+-- literals have a kind from `int` up; how many of its values a literal can have
+abbrev pub literals : IntKind → ℕ
+literals I8 = 0
+literals U8 = 0
+literals I16 = 0
+literals U16 = 0
+literals I32 = 2 ^ 31
+literals U32 = 2 ^ 32
+literals Long = 2 ^ 63
+literals ULong = 2 ^ 64
+literals LLong = 2 ^ 63
+literals ULLong = 2 ^ 64
+
+unfoldable pub is_literal : ℕ → IntKind → Bool
+is_literal value kind = nat_lt value (literals kind)
+
+abbrev pub is_blank : ℕ → Bool
+is_blank b = b == 32 || (b == 9 || b == 13)
+
+-- a byte that stands on a line: a space, tab, CR or a printable one
+abbrev pub on_line : ℕ → Bool
+on_line b = b == 9 || (b == 13 || (nat_le 32 b && nat_le b 126))
+
+abbrev pub ends_well : Word → Bool
+ends_well [] = false
+ends_well (b ∷ []) = not (is_blank b)
+ends_well (b ∷ c ∷ cs) = ends_well (c ∷ cs)
+
+abbrev pub begins_well : Word → Bool
+begins_well [] = false
+begins_well (b ∷ bs) = not (is_blank b)
+
+-- the text of a `def` line isn't empty and has no blanks at its ends
+unfoldable pub is_definition : Word → Bool
+is_definition text = each on_line text && (begins_well text && ends_well text)
+
+-- a word after which a line is no `#pragma cle NAME`
+unfoldable pub is_directive : Word → Bool
+is_directive word = bytes_eq (codes "def") word || (bytes_eq (codes "begin") word || bytes_eq (codes "end") word)
+
+-- a line `#pragma cle` gives it; its name may be a keyword
+unfoldable pub is_pragma : Pragma → Bool
+is_pragma (pragma.Def name text) = is_name name && is_definition text
+is_pragma (pragma.Begin name) = is_name name
+is_pragma (pragma.End name) = is_name name
+is_pragma (pragma.Next name) = is_name name && not (is_directive name)
+
+unfoldable pub is_byte : ℕ → Bool
+is_byte b = nat_lt b 256
+
+-- A source can bring it.
+unfoldable pub comes : Sign → Bool
+comes (sign.Name name) = is_name name && is_free name
+comes (sign.Integer value kind) = is_literal value kind
+comes (sign.Letter byte) = is_byte byte
+comes (sign.Text bytes) = each is_byte bytes
+comes (sign.Cle p) = is_pragma p
+comes _ = true

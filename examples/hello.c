@@ -1,0 +1,2 @@
+#pragma cle def P {"level":"purple"}
+int main(void) { putchar(72); return 0; }

@@ -1,0 +1,2 @@
+#pragma cle def P {"level":"purple"}
+int main(void) { return x; }
