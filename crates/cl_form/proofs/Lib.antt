@@ -1,9 +1,7 @@
-pub mod Turns
-pub mod Marks
-pub mod Sound
-pub mod Complete
-pub mod Main
-pub mod Numbers
-pub mod Scanning
-pub mod FirstLine
+pub mod Heads
+pub mod Levels
+pub mod Nine
+pub mod Parts
+pub mod Programs
+pub mod Steps
 pub mod Whole

@@ -1,5 +1,3 @@
-pub mod Tokens
-pub mod Written
 pub mod Form
 pub mod Reading
-pub mod Scanning
+pub mod Stops

@@ -1,16 +1,15 @@
-//! The small form of one level: sources that every later rule accepts, and their reader.
+//! The two small forms of sources that a run serves so far, and their reader.
 #![tactic(auto)]
 
-pub mod body;
-pub mod cursor;
+pub mod alone;
+pub mod checked;
 pub mod form;
-pub mod lexeme;
-pub mod limits;
-pub mod line;
-pub mod program;
-pub mod scan;
+pub mod head;
+pub mod names;
+pub mod pair;
+pub mod part;
+pub mod shape;
 pub mod stop;
-pub mod sum;
 #[cfg(test)]
 mod tests;
 pub mod text;

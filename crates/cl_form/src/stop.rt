@@ -3,6 +3,7 @@
 ghost use Rattle.std.specs.Prelude.{◌≡◌};
 
 use cl_base::name::NoMemory;
+use cl_front::stop::FrontStop;
 use std::alloc::AllocError;
 
 /// Why no program comes of a source.
@@ -31,5 +32,18 @@ impl From<NoMemory> for FormStop {
 
     fn from(_: NoMemory) -> FormStop {
         FormStop::NoMemory
+    }
+}
+
+impl From<FrontStop> for FormStop {
+    ghost use Rattle.cl_form.specs.Stops.{of_front};
+
+    ghost from_gives = { λ e s. s ≡ of_front e };
+
+    fn from(stop: FrontStop) -> FormStop {
+        match stop {
+            FrontStop::Refused { .. } => FormStop::NoReading,
+            FrontStop::NoMemory => FormStop::NoMemory,
+        }
     }
 }

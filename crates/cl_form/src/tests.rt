@@ -2,7 +2,7 @@
 
 use crate::form::{one_reading, read_form};
 use crate::stop::FormStop;
-use cl_mean::checked::Checked;
+use cl_mean::checked::{Checked, GedlRow, Operation};
 use cl_tree::kinds::{BinOp, IntKind};
 use cl_tree::token::Pragma;
 use cl_tree::tree::{Act, CType, Expr, Item, Node, Stmt};
@@ -37,6 +37,11 @@ fn show_expr(alloc: Global, out: &mut String, e: &Expr) -> Result<(), Fail> {
             show_expr(alloc, out, right.get())?;
             out.push_str("]")?;
         }
+        Node::Variable(name) => {
+            let text = name.text();
+            let one = format!(in alloc; "{text}@{line}.{second}")?;
+            out.push_str(one.as_str())?;
+        }
         Node::Call(name, arguments) => {
             let text = name.text();
             let open = format!(in alloc; "{text}@{line}.{second}{{")?;
@@ -57,6 +62,12 @@ fn show_all(alloc: Global, out: &mut String, all: &[Expr]) -> Result<(), Fail> {
     Ok(())
 }
 
+fn show_set(alloc: Global, out: &mut String, place: &Expr, value: &Expr) -> Result<(), Fail> {
+    show_expr(alloc, out, place)?;
+    out.push_str(" = ")?;
+    show_expr(alloc, out, value)
+}
+
 fn show_stmts(alloc: Global, out: &mut String, all: &[Stmt]) -> Result<(), Fail> {
     for s in all {
         let line = s.line;
@@ -69,6 +80,11 @@ fn show_stmts(alloc: Global, out: &mut String, all: &[Stmt]) -> Result<(), Fail>
                 out.push_str("return ")?;
                 show_expr(alloc, out, e)?;
             }
+            Act::Set {
+                op: None,
+                place,
+                value,
+            } => show_set(alloc, out, place, value)?,
             _ => out.push_str("?")?,
         }
         out.push_str(";")?;
@@ -82,6 +98,11 @@ fn show_item(alloc: Global, out: &mut String, item: &Item) -> Result<(), Fail> {
             let name = name.text();
             let text = text.as_slice().len();
             let one = format!(in alloc; "def {name} {text}@{line}|")?;
+            out.push_str(one.as_str())?;
+        }
+        Item::Cle(Pragma::Next(name), line) => {
+            let name = name.text();
+            let one = format!(in alloc; "next {name}@{line}|")?;
             out.push_str(one.as_str())?;
         }
         Item::Function {
@@ -187,6 +208,8 @@ fn refuses_others(rt: HostRuntime) -> Result<(), Fail> {
         "int main(void) { return (); }",
         "int main(void) { return 1 }",
         "int main(void) { return - 1; }",
+        "signed main(void) {}",
+        "int32_t main(void) {}",
         "",
     ] {
         let source = format!(in alloc; "{HEAD}{rest}")?;
@@ -244,6 +267,166 @@ fn repeated(
     }
     out.push_str(behind)?;
     Ok(out)
+}
+
+// The functions and the objects, with their items and lines.
+fn show_typed(alloc: Global, out: &mut String, c: &Checked) -> Result<(), Fail> {
+    for f in c.typed.functions.as_slice() {
+        let name = f.name.text();
+        let item = f.item;
+        let line = f.line;
+        let one = format!(in alloc; "{name} {item}@{line}|")?;
+        out.push_str(one.as_str())?;
+    }
+    for o in c.typed.objects.as_slice() {
+        let name = o.name.text();
+        let item = o.item;
+        let line = o.line;
+        let one = format!(in alloc; "{name} {item}@{line}|")?;
+        out.push_str(one.as_str())?;
+    }
+    Ok(())
+}
+
+fn show_numbers(alloc: Global, out: &mut String, numbers: &[u32]) -> Result<(), Fail> {
+    for n in numbers {
+        let one = format!(in alloc; "{n} ")?;
+        out.push_str(one.as_str())?;
+    }
+    out.push_str("|")?;
+    Ok(())
+}
+
+fn show_row(alloc: Global, out: &mut String, row: &GedlRow) -> Result<(), Fail> {
+    let from = row.from;
+    let to = row.to;
+    let function = row.function;
+    let name = row.name.text();
+    let label = row.label.text();
+    let ends = format!(in alloc; "{from}>{to} {function} {name} {label} ")?;
+    out.push_str(ends.as_str())?;
+    let operation: Operation = row.operation;
+    let count = row.args.len();
+    let request = row.request;
+    let reply = row.reply;
+    let oneway = row.oneway;
+    let frames = format!(in alloc; "{operation:?} {count} {request} {reply} {oneway}|")?;
+    out.push_str(frames.as_str())?;
+    Ok(())
+}
+
+// What the checks say of a source: functions, objects, levels and rows.
+fn facts(alloc: Global, source: &[u8]) -> Result<String, Fail> {
+    let mut out = String::new(alloc);
+    if source.len() > 1048576 {
+        return Ok(out);
+    }
+    if let Ok(c) = read_form(alloc, source) {
+        show_typed(alloc, &mut out, &c)?;
+        show_numbers(alloc, &mut out, c.levels.of_functions.as_slice())?;
+        show_numbers(alloc, &mut out, c.levels.of_objects.as_slice())?;
+        for row in c.gedl.rows.as_slice() {
+            show_row(alloc, &mut out, row)?;
+        }
+    }
+    Ok(out)
+}
+
+const PAIR: &str =
+    "#pragma cle def PURPLE {\"level\":\"purple\"}\n#pragma cle def ORANGE {\"level\":\"orange\"}\n#pragma cle def RESP {\"level\":\"purple\"}\n#pragma cle def GETA {\"level\":\"orange\",\"cdf\":[{\"remotelevel\":\"purple\",\"direction\":\"bidirectional\",\"guarddirective\":{\"operation\":\"allow\"},\"argtaints\":[],\"codtaints\":[\"ORANGE\"],\"rettaints\":[\"RESP\"]}]}\n#pragma cle ORANGE\nint a;\n#pragma cle GETA\nint f(void) { a = a + 1; return a; }\nint main(void) { putchar(48 + f()); return 0; }\n";
+
+fn replaced(alloc: Global, source: &str, old: &str, new: &str) -> Result<String, Fail> {
+    let mut out = String::new(alloc);
+    for (i, piece) in source.split(old).enumerate() {
+        if i != 0 {
+            out.push_str(new)?;
+        }
+        out.push_str(piece)?;
+    }
+    Ok(out)
+}
+
+#[test]
+fn reads_two_levels(rt: HostRuntime) -> Result<(), Fail> {
+    let alloc = rt.alloc();
+    assert_eq!(rt;
+        shown(alloc, PAIR.as_bytes())?.as_str(),
+        "purple|orange|def PURPLE 18@1|def ORANGE 18@2|def RESP 18@3|def GETA 177@4|next ORANGE@5|?next GETA@7|f 0@8.8: 8.8 a@8.8 = [@8 a@8.8 Add@8 1@8.8]; 8.8 return a@8.8;main 0@9.9: 9.9 putchar@9.9{[@9 48@9.9 Add@9 f@9.9{}]}; 9.9 return 0@9.9;"
+    );
+    for (old, new, wanted) in [
+        ("RESP", "RESP", "0>1 0 f GETA Allow 0 0 4 false|"),
+        ("f()", "( f\t( ) )\n*2", "0>1 0 f GETA Allow 0 0 4 false|"),
+        ("48 + f()", "48", ""),
+    ] {
+        let source = replaced(alloc, PAIR, old, new)?;
+        let wanted = format!(in alloc; "f 7@8|main 8@9|a 5@6|1 0 |1 |{wanted}")?;
+        assert_eq!(rt;
+            facts(alloc, source.as_bytes())?.as_str(),
+            wanted.as_str(),
+            "at {new:?}"
+        );
+    }
+    Ok(())
+}
+
+#[test]
+fn refuses_other_pairs(rt: HostRuntime) -> Result<(), Fail> {
+    let alloc = rt.alloc();
+    for (old, new) in [
+        ("orange", "purple"),
+        ("RESP", "PURPLE"),
+        ("GETA", "f"),
+        ("PURPLE", "def"),
+        ("return a; }", "a = 2; }"),
+        ("a = a + 1; return a;", ""),
+        ("f()", "f(1)"),
+        ("a + 1", "a + f()"),
+        ("return 0", "return a"),
+        ("cle ORANGE\n", "cle  ORANGE\n"),
+        ("int a;", "int a ;"),
+        ("int f", "signed f"),
+        ("int main", "int32_t main"),
+        ("RESP {", "RESQ {"),
+        ("48", "048"),
+        ("#pragma cle ORANGE", "#pragma cle PURPLE"),
+        ("argtaints\":[]", "argtaints\":[[]]"),
+    ] {
+        let source = replaced(alloc, PAIR, old, new)?;
+        assert_eq!(rt;
+            shown(alloc, source.as_bytes())?.as_str(),
+            "NoReading",
+            "at {new:?}"
+        );
+    }
+    Ok(())
+}
+
+// Each is refused for what two changes make of the source.
+#[test]
+fn refuses_changed_twice(rt: HostRuntime) -> Result<(), Fail> {
+    let alloc = rt.alloc();
+    let orange = "ORANGE {\"level\":\"orange\"}\n#pragma cle def ";
+    let behind = "ORANGE {\"level\":\"orange\"}\n#pragma cle def GETA {";
+    for (old, new, then, last) in [
+        (
+            "int a;",
+            "int main;",
+            "a = a + 1; return a;",
+            "main = main + 1; return main;",
+        ),
+        ("int f(", "int putchar(", "f())", "putchar())"),
+        // the other order of the second and the third line
+        (orange, "", "GETA {", behind),
+    ] {
+        let source = replaced(alloc, PAIR, old, new)?;
+        let source = replaced(alloc, source.as_str(), then, last)?;
+        assert_eq!(rt;
+            shown(alloc, source.as_bytes())?.as_str(),
+            "NoReading",
+            "at {new:?}"
+        );
+    }
+    Ok(())
 }
 
 #[test]

@@ -22,8 +22,8 @@ verdict_one source (Refused NoReading line) (Accepted d) p q = absurd (p.2 d q.1
 verdict_one source (Refused NoReading line) (Refused SourceTooLong line') p q = absurd (apart source p.0 q.0)
 verdict_one source (Refused NoReading line) (Refused NoReading line') p q = ap (λ n. Refused NoReading n) (p.1 ∙ sym q.1)
 
-pub source_one : (source : List ℕ) (a b : Answer) → SourceGives source a → SourceGives source b → a ≡ b
-source_one source a b p q = p.is ∙ (ap answer_of (verdict_one source p.verdict q.verdict p.judged q.judged) ∙ sym q.is)
+pub source_one : (journal : Option (List ℕ)) (source : List ℕ) (a b : Answer) → SourceGives journal source a → SourceGives journal source b → a ≡ b
+source_one journal source a b p q = p.is ∙ (ap (answer_of journal) (verdict_one source p.verdict q.verdict p.judged q.judged) ∙ sym q.is)
 
 -- two texts that a file holds are one
 same_source : (files : Held) (path source source' : List ℕ) → file_of files path ≡ Some source → file_of files path ≡ Some source' → source' ≡ source
@@ -32,4 +32,4 @@ same_source files path source source' p q = cc
 pub answer_one : (files : Held) (asked : Option RunAsked) (a b : Answer) → IsExpected (Some files) asked a → IsExpected (Some files) asked b → a ≡ b
 answer_one files None a b p q = p ∙ sym q
 answer_one files (Some run) a b p q =
-    source_one p.source a b p.gives (subst (λ (s : List ℕ). SourceGives s b) (same_source files run.source p.source q.source p.held q.held) q.gives)
+    source_one run.journal p.source a b p.gives (subst (λ (s : List ℕ). SourceGives run.journal s b) (same_source files run.source p.source q.source p.held q.held) q.gives)

@@ -1,9 +1,10 @@
 -- The expected answer of the program: its status and its texts, from the words, the files and the definitions.
-use Rattle.std.specs.Prelude.{◌≡◌, ◌≤◌, ◌<◌, ◌⊎◌, ℕ, List, [], ◌∷◌, ◌++◌, codes, length, take, Option, Some, None, IfSome}
-use Rattle.cl_base.specs.Outside.{Held, file_of, Rose}
+use Rattle.std.specs.Prelude.{◌≡◌, ◌≤◌, ◌<◌, ◌⊎◌, ℕ, List, [], ◌∷◌, ◌++◌, codes, length, take, Option, Some, None, option_map, IfSome}
+use Rattle.cl_base.specs.Outside.{Held, file_of, Rose, IsWritten, OthersStand}
 use Rattle.cl_mean.specs.declared.checked.Checked.{Checked}
 use Rattle.cl_mean.specs.declared.outcome.End.{End}
 use Rattle.cl_mean.specs.declared.outcome.End.TheVariants.{Exit, Trapped}
+use Rattle.cl_mean.specs.Journal.{journal}
 use Rattle.cl_mean.specs.Meaning.{Outcome, mean}
 use Rattle.cl_form.specs.Form.{HasForm}
 use Rattle.cl_job.specs.declared.status.Status.{Status}
@@ -25,7 +26,7 @@ levels_text _ _ = []
 
 -- what a run writes
 unfoldable pub report_text : List (List ℕ) → Outcome → List ℕ
-report_text names outcome = levels_text names outcome.outputs ++ last_text names 0 outcome.end
+report_text names outcome = levels_text names outcome.outputs ++ last_text names (length outcome.crossings) outcome.end
 
 -- what a source is found to be: a checked program, or what fails first, and at which line
 pub data Verdict : Type 0 where
@@ -38,45 +39,58 @@ IsVerdict source (Accepted checked) = (length source ≤ 1048576) × HasForm sou
 IsVerdict source (Refused SourceTooLong line) = (1048576 < length source) × (line ≡ 1)
 IsVerdict source (Refused NoReading line) = (length source ≤ 1048576) × (line ≡ 1) × ((checked : Checked) → HasForm source checked → ⊥)
 
--- a status with the text on standard output, and the one on standard error
+-- a file, by its path and its bytes
+abbrev pub File : Type 0
+File = List ℕ × List ℕ
+
+-- a status with the text on standard output, the one on standard error, and the file that is written, if one is
 pub record Answer : Type 0 where
   pub status : Status
   pub text : List ℕ
   pub fault_text : List ℕ
+  pub file : Option File
 
 abbrev pub usage_answer : Answer
-usage_answer = record { status = status.Usage; text = []; fault_text = usage_text }
+usage_answer = record { status = status.Usage; text = []; fault_text = usage_text; file = None }
 
 abbrev pub status_of : End → Status
 status_of (Exit value) = status.Done
 status_of (Trapped level trap) = status.Trapped
 
--- an accepted source is run
-abbrev pub answer_of : Verdict → Answer
-answer_of (Accepted checked) =
-    record { status = status_of (mean checked).end; text = report_text checked.labels.levels (mean checked); fault_text = [] }
-answer_of (Refused rule line) = record { status = status.Refused; text = []; fault_text = refusal_text rule line }
+-- the journal of what crosses
+abbrev pub journal_of : Checked → List ℕ
+journal_of checked = journal checked.gedl.rows (mean checked).crossings
 
--- the answer that a source gets
-pub record SourceGives (source : List ℕ) (answer : Answer) : Type 0 where
+-- an accepted source is run, and its journal is written where it is asked for
+abbrev pub answer_of : Option (List ℕ) → Verdict → Answer
+answer_of path (Accepted checked) = record {
+  status = status_of (mean checked).end;
+  text = report_text checked.labels.levels (mean checked);
+  fault_text = [];
+  file = option_map (λ p. (p, journal_of checked)) path;
+}
+answer_of path (Refused rule line) = record { status = status.Refused; text = []; fault_text = refusal_text rule line; file = None }
+
+-- the answer that a source gets, with the path of the journal
+pub record SourceGives (journal : Option (List ℕ)) (source : List ℕ) (answer : Answer) : Type 0 where
   pub verdict : Verdict
   pub judged : IsVerdict source verdict
-  pub is : answer ≡ answer_of verdict
+  pub is : answer ≡ answer_of journal verdict
 
 -- the bytes that the file at a path can have held: just those that are told, and any where nothing is told
 abbrev pub CanHold : Option Held → List ℕ → List ℕ → Type 0
 CanHold told path bytes = IfSome told (λ files. file_of files path ≡ Some bytes)
 
--- the answer that the file at a path gets
-pub record FileGives (told : Option Held) (path : List ℕ) (answer : Answer) : Type 0 where
+-- the answer that a run gets of the file at its path
+pub record FileGives (told : Option Held) (run : RunAsked) (answer : Answer) : Type 0 where
   pub source : List ℕ
-  pub held : CanHold told path source
-  pub gives : SourceGives source answer
+  pub held : CanHold told run.source source
+  pub gives : SourceGives run.journal source answer
 
 -- the expected answer; to words that have no reading it is the usage text
 abbrev pub IsExpected : Option Held → Option RunAsked → Answer → Type 0
 IsExpected told None answer = answer ≡ usage_answer
-IsExpected told (Some run) answer = FileGives told run.source answer
+IsExpected told (Some run) answer = FileGives told run answer
 
 -- the statuses that neither a fault nor want of memory gives
 abbrev pub IsSettled : Status → Type 0
@@ -92,11 +106,31 @@ IsSettled status.NoMemory = ⊥
 abbrev pub WasGiven : List ℕ → ℕ → ℕ → Option (List ℕ) → Option (List ℕ) → Type 0
 WasGiven text count count' before now = Grew text before now ⊎ (Rose count count' × ((kept : ℕ) × Grew (take kept text) before now))
 
--- an expected answer was given: the status is its own, standard output has its text more, and standard error was
--- given its fault text
-pub record Answered (Expected : Answer → Type 0) (status : Status) (out out' : Option (List ℕ)) (count count' : ℕ) (err err' : Option (List ℕ)) : Type 0 where
+-- the files after a file was written, or after none was: every other file stands
+abbrev pub FilesHold : Option File → Option Held → Option Held → Type 0
+FilesHold None before now = now ≡ before
+FilesHold (Some file) None now = now ≡ None
+FilesHold (Some file) (Some before) None = ⊥
+FilesHold (Some file) (Some before) (Some now) = IsWritten file.0 file.1 before now
+
+-- what a run can change of the files, whatever it answers: the file at the journal's path alone, where one is asked for
+abbrev pub OnlyAt : Option (List ℕ) → Option Held → Option Held → Type 0
+OnlyAt None before now = now ≡ before
+OnlyAt (Some path) None now = now ≡ None
+OnlyAt (Some path) (Some before) None = ⊥
+OnlyAt (Some path) (Some before) (Some now) = OthersStand path before now
+
+-- the path of the journal that a run asks for
+abbrev pub journal_path : Option RunAsked → Option (List ℕ)
+journal_path None = None
+journal_path (Some run) = run.journal
+
+-- an expected answer was given: the status is its own, the files hold its file, standard output has its text more,
+-- and standard error was given its fault text
+pub record Answered (Expected : Answer → Type 0) (status : Status) (files files' : Option Held) (out out' : Option (List ℕ)) (count count' : ℕ) (err err' : Option (List ℕ)) : Type 0 where
   pub answer : Answer
   pub expected : Expected answer
   pub status_is : status ≡ answer.status
+  pub file : FilesHold answer.file files files'
   pub text : Grew answer.text out out'
   pub fault_text : WasGiven answer.fault_text count count' err err'

@@ -38,6 +38,9 @@ refusal_text rule line =
 unfoldable pub read_fault_text : List ℕ → List ℕ
 read_fault_text path = codes "closure: cannot read " ++ path ++ codes "\n"
 
+unfoldable pub write_fault_text : List ℕ → List ℕ
+write_fault_text path = codes "closure: cannot write " ++ path ++ codes "\n"
+
 unfoldable pub cause_word : TrapCause → List ℕ
 cause_word Overflow = codes "overflow"
 cause_word Divide = codes "divide"

@@ -1,26 +1,28 @@
-//! The top call: words in, texts and a status out.
+//! The top call: words in, texts, files and a status out.
 
-ghost use Rattle.std.specs.Prelude.{◌≡◌, ◌≢◌, ◌<◌, ◌≤◌, ◌↔◌, ℕ, length, map, string_bytes, IsErr, IsErrOf, Option, Some};
+ghost use Rattle.std.specs.Prelude.{◌≡◌, ◌≢◌, ◌<◌, ◌≤◌, ◌↔◌, ◌⊎◌, ℕ, length, map, string_bytes, IfErr, OnOk, IsErrOf, Option, Some, option_map};
+ghost use Rattle.std.specs.Option.{option_copied};
 ghost use Rattle.cl_base.specs.Outside.{Counts, Held, Rose};
 ghost use Rattle.cl_mean.specs.Meaning.{mean};
-ghost use Rattle.cl_job.specs.Answer.{Answer, Answered, FileGives, IsExpected, IsSettled, SourceGives, WasGiven, status_of};
+ghost use Rattle.cl_run.specs.Runs.{IsServed, IsRun};
+ghost use Rattle.cl_job.specs.Answer.{Answer, Answered, FileGives, FilesHold, IsExpected, IsSettled, OnlyAt, SourceGives, WasGiven, journal_path, status_of};
 ghost use Rattle.cl_job.specs.Sinks.{Grew};
 ghost use Rattle.cl_job.specs.Texts.{usage_text, refusal_text};
 ghost use Rattle.cl_job.specs.Words.{RunAsked, run_asked};
-ghost use Rattle.cl_job.specs.Reports.{Refuses, Reports};
+ghost use Rattle.cl_job.specs.Reports.{Puts, Refuses, Reports, WriteCounts};
 
 use crate::report::{ReportStop, put_report};
-use crate::run::run_checked;
 use crate::status::Status;
 use crate::texts::{self, Rule};
-use crate::words::{Run, read_words};
+use crate::words::read_words;
 use cl_base::limits::SOURCE_BYTES;
 use cl_base::name::NoMemory;
-use cl_base::outside::{FileStop, Files, Sink};
+use cl_base::outside::{FileStop, Files, Sink, WriteStop};
 use cl_form::form::read_form;
 use cl_form::stop::FormStop;
 use cl_mean::checked::Checked;
 use cl_mean::outcome::End;
+use cl_run::run::{Finished, run_checked};
 use std::alloc::{AllocError, Global};
 
 const USAGE: &str =
@@ -75,19 +77,30 @@ fn status_of(end: End) -> Status
     }
 }
 
-/// Runs a checked source and puts its report.
-fn report<O: Sink, E: Sink>(alloc: Global, checked: &Checked, out: &mut O, err: &mut E) -> Status
-    requires { 0 < length checked.now.labels.levels }
-    ensures reports { Reports checked.now result (O.written out.old) (O.written out.new) }
+/// Puts the report of a run that is over.
+#[tactic(auto, using(crate::proofs::Answers::put_whole))]
+fn put_finished<O: Sink, E: Sink>(
+    alloc: Global,
+    checked: &Checked,
+    finished: &Finished,
+    out: &mut O,
+    err: &mut E,
+) -> Status
+    requires { IsRun checked.now finished.now.state finished.now.hal finished.now.end (mean checked.now) }
+    ensures puts { Puts checked.now result (O.written out.old) (O.written out.new) }
     ensures counts { Counts (result ≡ Status.WriteFault) (O.fault_count out.old) (O.fault_count out.new) }
     ensures quiet { IsSettled result → err.new ≡ err.old }
 {
-    let Ok(finished) = run_checked(alloc, checked) else {
-        return give_up(err);
-    };
     let names = checked.labels.levels.as_slice();
     let levels = finished.state.levels.as_slice();
-    match put_report(alloc, out, names, levels, finished.end) {
+    match put_report(
+        alloc,
+        out,
+        names,
+        levels,
+        finished.hal.frames(),
+        finished.end,
+    ) {
         Ok(()) => status_of(finished.end),
         Err(ReportStop::WriteFault) => {
             complain(err, "closure: cannot write standard output\n");
@@ -97,16 +110,101 @@ fn report<O: Sink, E: Sink>(alloc: Global, checked: &Checked, out: &mut O, err: 
     }
 }
 
+/// Writes a file, or says why it wasn't written and answers how the command ends.
+fn write_file<F: Files, E: Sink>(
+    alloc: Global,
+    path: &str,
+    bytes: &[u8],
+    files: &mut F,
+    err: &mut E,
+) -> Result<(), Status>
+    ensures wrote { OnOk result (FilesHold (Some (path.now, bytes.now)) (F.held files.old) (F.held files.new)) }
+    ensures only { OnlyAt (Some path.now) (F.held files.old) (F.held files.new) }
+    ensures stops { IfErr result (λ status. (status ≡ Status.WriteFault) ⊎ (status ≡ Status.NoMemory)) }
+    ensures counts { Counts (IsErrOf result Status.WriteFault) (F.write_count files.old) (F.write_count files.new) }
+    ensures reads_stand { F.read_count files.new ≡ F.read_count files.old }
+    ensures quiet { OnOk result (err.new ≡ err.old) }
+{
+    let Ok(fault_text) = texts::write_fault_text(alloc, path) else {
+        return Err(give_up(err));
+    };
+    match files.write(path, bytes) {
+        Ok(()) => Ok(()),
+        Err(WriteStop::Failed) => {
+            complain(err, fault_text.as_str());
+            Err(Status::WriteFault)
+        }
+        Err(WriteStop::NoMemory) => Err(give_up(err)),
+    }
+}
+
+/// Writes the journal of a run, where it is asked for.
+fn keep_journal<F: Files, E: Sink>(
+    alloc: Global,
+    journal: Option<&str>,
+    bytes: &[u8],
+    files: &mut F,
+    err: &mut E,
+) -> Result<(), Status>
+    ensures wrote { OnOk result (FilesHold (option_map (λ path. (path, bytes.now)) (option_copied journal.entry)) (F.held files.old) (F.held files.new)) }
+    ensures only { OnlyAt (option_copied journal.entry) (F.held files.old) (F.held files.new) }
+    ensures stops { IfErr result (λ status. (status ≡ Status.WriteFault) ⊎ (status ≡ Status.NoMemory)) }
+    ensures counts { Counts (IsErrOf result Status.WriteFault) (F.write_count files.old) (F.write_count files.new) }
+    ensures reads_stand { F.read_count files.new ≡ F.read_count files.old }
+    ensures quiet { OnOk result (err.new ≡ err.old) }
+{
+    match journal {
+        Some(path) => write_file(alloc, path, bytes, files, err),
+        None => Ok(()),
+    }
+}
+
+/// Runs a checked source, keeps its journal and puts its report.
+#[tactic(auto, using(crate::proofs::Answers::reports))]
+fn report<F: Files, O: Sink, E: Sink>(
+    alloc: Global,
+    checked: &Checked,
+    journal: Option<&str>,
+    files: &mut F,
+    out: &mut O,
+    err: &mut E,
+) -> Status
+    requires { IsServed checked.now }
+    ensures reports { Reports checked.now (option_copied journal.entry) result (F.held files.old) (F.held files.new) (O.written out.old) (O.written out.new) }
+    ensures only { OnlyAt (option_copied journal.entry) (F.held files.old) (F.held files.new) }
+    ensures counts { WriteCounts (result ≡ Status.WriteFault) (F.write_count files.old) (F.write_count files.new) (O.fault_count out.old) (O.fault_count out.new) }
+    ensures reads_stand { F.read_count files.new ≡ F.read_count files.old }
+    ensures quiet { IsSettled result → err.new ≡ err.old }
+{
+    let Ok(finished) = run_checked(alloc, checked) else {
+        return give_up(err);
+    };
+    match keep_journal(alloc, journal, finished.hal.journal(), files, err) {
+        Ok(()) => put_finished(alloc, checked, &finished, out, err),
+        Err(status) => status,
+    }
+}
+
 /// Judges a source, and runs it where it is accepted.
 #[tactic(auto, using(crate::proofs::Answers::answers))]
-fn run_bytes<O: Sink, E: Sink>(alloc: Global, source: &[u8], out: &mut O, err: &mut E) -> Status
+fn run_bytes<F: Files, O: Sink, E: Sink>(
+    alloc: Global,
+    source: &[u8],
+    journal: Option<&str>,
+    files: &mut F,
+    out: &mut O,
+    err: &mut E,
+) -> Status
     requires { length source.now ≤ 1048576 }
-    ensures answered { IsSettled result → Answered (SourceGives source.now) result (O.written out.old) (O.written out.new) (E.fault_count err.old) (E.fault_count err.new) (E.written err.old) (E.written err.new) }
-    ensures counts { Counts (result ≡ Status.WriteFault) (O.fault_count out.old) (O.fault_count out.new) }
+    ensures answered { IsSettled result → Answered (SourceGives (option_copied journal.entry) source.now) result (F.held files.old) (F.held files.new) (O.written out.old) (O.written out.new) (E.fault_count err.old) (E.fault_count err.new) (E.written err.old) (E.written err.new) }
+    ensures only { OnlyAt (option_copied journal.entry) (F.held files.old) (F.held files.new) }
+    ensures counts { WriteCounts (result ≡ Status.WriteFault) (F.write_count files.old) (F.write_count files.new) (O.fault_count out.old) (O.fault_count out.new) }
+    ensures reads_stand { F.read_count files.new ≡ F.read_count files.old }
     ensures no_read { result ≢ Status.ReadFault }
+    ensures understood { result ≢ Status.Usage }
 {
     match read_form(alloc, source) {
-        Ok(checked) => report(alloc, &checked, out, err),
+        Ok(checked) => report(alloc, &checked, journal, files, out, err),
         Err(FormStop::NoReading) => refuse(alloc, err, Rule::NoReading),
         Err(FormStop::NoMemory) => give_up(err),
     }
@@ -117,22 +215,22 @@ fn run_bytes<O: Sink, E: Sink>(alloc: Global, source: &[u8], out: &mut O, err: &
 fn run_file<F: Files, O: Sink, E: Sink>(
     alloc: Global,
     path: &str,
+    journal: Option<&str>,
     files: &mut F,
     out: &mut O,
     err: &mut E,
 ) -> Status
-    ensures answered { IsSettled result → Answered (FileGives (F.held files.old) path.now) result (O.written out.old) (O.written out.new) (E.fault_count err.old) (E.fault_count err.new) (E.written err.old) (E.written err.new) }
+    ensures answered { IsSettled result → Answered (FileGives (F.held files.old) (record { source = path.now; journal = option_copied journal.entry })) result (F.held files.old) (F.held files.new) (O.written out.old) (O.written out.new) (E.fault_count err.old) (E.fault_count err.new) (E.written err.old) (E.written err.new) }
+    ensures only { OnlyAt (option_copied journal.entry) (F.held files.old) (F.held files.new) }
     ensures read_counts { Counts (result ≡ Status.ReadFault) (F.read_count files.old) (F.read_count files.new) }
-    ensures out_counts { Counts (result ≡ Status.WriteFault) (O.fault_count out.old) (O.fault_count out.new) }
-    ensures writes_stand { F.write_count files.new ≡ F.write_count files.old }
-    ensures files_stand { F.held files.new ≡ F.held files.old }
+    ensures write_counts { WriteCounts (result ≡ Status.WriteFault) (F.write_count files.old) (F.write_count files.new) (O.fault_count out.old) (O.fault_count out.new) }
     ensures understood { result ≢ Status.Usage }
 {
     let Ok(fault_text) = texts::read_fault_text(alloc, path) else {
         return give_up(err);
     };
     match files.read(alloc, path, SOURCE_BYTES) {
-        Ok(source) => run_bytes(alloc, source.as_slice(), out, err),
+        Ok(source) => run_bytes(alloc, source.as_slice(), journal, files, out, err),
         Err(FileStop::TooLong) => refuse(alloc, err, Rule::SourceTooLong),
         Err(FileStop::Failed) => {
             complain(err, fault_text.as_str());
@@ -143,7 +241,8 @@ fn run_file<F: Files, O: Sink, E: Sink>(
 }
 
 /// Carries out the command that the words ask for, and answers how it ended. What it finds goes to
-/// `out`, and why it ends early to `err`; that a put on `err` fails leaves the answer.
+/// `out` and into the journal's file, and why it ends early to `err`; that a put on `err` fails leaves
+/// the answer.
 #[tactic(auto, using(crate::proofs::Answers::answers))]
 pub fn closure<F: Files, O: Sink, E: Sink>(
     alloc: Global,
@@ -153,23 +252,24 @@ pub fn closure<F: Files, O: Sink, E: Sink>(
     err: &mut E,
 ) -> Status
     // By content: without a fault and with memory enough, the expected answer is given.
-    ensures answered { IsSettled result → Answered (IsExpected (F.held files.old) (run_asked (map string_bytes words.now))) result (O.written out.old) (O.written out.new) (E.fault_count err.old) (E.fault_count err.new) (E.written err.old) (E.written err.new) }
+    ensures answered { IsSettled result → Answered (IsExpected (F.held files.old) (run_asked (map string_bytes words.now))) result (F.held files.old) (F.held files.new) (O.written out.old) (O.written out.new) (E.fault_count err.old) (E.fault_count err.new) (E.written err.old) (E.written err.new) }
 
     // By cause.
     ensures usage { (result ≡ Status.Usage) ↔ (run_asked (map string_bytes words.now) ≡ None) }
     ensures read_fault { result ≡ Status.ReadFault → Rose (F.read_count files.old) (F.read_count files.new) }
     ensures read_fault_told { F.read_count files.old < F.read_count files.new → result ≡ Status.ReadFault }
-    ensures write_fault { result ≡ Status.WriteFault → Rose (O.fault_count out.old) (O.fault_count out.new) }
+    ensures write_fault { result ≡ Status.WriteFault → Rose (F.write_count files.old) (F.write_count files.new) ⊎ Rose (O.fault_count out.old) (O.fault_count out.new) }
+    ensures file_fault_told { F.write_count files.old < F.write_count files.new → result ≡ Status.WriteFault }
     ensures write_fault_told { O.fault_count out.old < O.fault_count out.new → result ≡ Status.WriteFault }
 
     // What stands.
     ensures read_counts { F.read_count files.old ≤ F.read_count files.new }
+    ensures write_counts { F.write_count files.old ≤ F.write_count files.new }
     ensures out_counts { O.fault_count out.old ≤ O.fault_count out.new }
-    ensures writes_stand { F.write_count files.new ≡ F.write_count files.old }
-    ensures files_stand { F.held files.new ≡ F.held files.old }
+    ensures only { OnlyAt (journal_path (run_asked (map string_bytes words.now))) (F.held files.old) (F.held files.new) }
 {
     match read_words(words) {
-        Some(run) => run_file(alloc, run.source, files, out, err),
+        Some(run) => run_file(alloc, run.source, run.journal, files, out, err),
         None => explain(err),
     }
 }

@@ -3,7 +3,6 @@
 
 pub mod job;
 pub mod report;
-pub mod run;
 pub mod status;
 #[cfg(test)]
 mod tests;

@@ -2,8 +2,9 @@
 
 ghost use Rattle.std.specs.Prelude.{◌≡◌, ◌++◌, OnOk, IsErrOf, IsErr, map, codes};
 ghost use Rattle.cl_base.specs.Outside.{Counts};
-ghost use Rattle.cl_job.specs.Answer.{level_text, levels_text, report_text};
+ghost use Rattle.cl_job.specs.Answer.{level_text, levels_text};
 ghost use Rattle.cl_job.specs.Sinks.{Grew};
+ghost use Rattle.cl_job.specs.Texts.{last_text};
 
 use crate::texts;
 use cl_base::name::Name;
@@ -91,19 +92,20 @@ fn put_levels<O: Sink>(
     put_levels(alloc, out, names, levels)
 }
 
-/// Puts the report of a run: its levels, and its end.
-#[tactic(auto, using(crate::proofs::Growth::growth), unfolding(crate::specs::Answer::report_text))]
+/// Puts the report of a run: its levels, the number of frames, and its end.
+#[tactic(auto, using(crate::proofs::Growth::growth))]
 pub fn put_report<O: Sink>(
     alloc: Global,
     out: &mut O,
     names: &[Name],
     levels: &[LevelState],
+    frames: u64,
     end: End,
 ) -> Result<(), ReportStop>
     ensures counts { Counts (IsErrOf result ReportStop.WriteFault) (O.fault_count out.old) (O.fault_count out.new) }
-    ensures wrote { OnOk result (Grew (report_text names.now (record { outputs = map (λ l. l.output) levels.now; end = end })) (O.written out.old) (O.written out.new)) }
+    ensures wrote { OnOk result (Grew (levels_text names.now (map (λ l. l.output) levels.now) ++ last_text names.now frames end) (O.written out.old) (O.written out.new)) }
 {
-    let last = texts::last_text(alloc, names, 0, end)?;
+    let last = texts::last_text(alloc, names, frames, end)?;
     put_levels(alloc, out, names, levels)?;
     put(out, last.as_bytes())?;
     Ok(())

@@ -3,6 +3,7 @@
 use crate::job::closure;
 use crate::status::Status;
 use cl_base::memory::{MemFiles, MemSink};
+use cl_base::outside::Files;
 use std::alloc::{AllocError, Global};
 use std::process::Abort;
 use std::test::Fail;
@@ -229,6 +230,16 @@ fn words_are_read(rt: HostRuntime) {
         "run a.c b.c",
         "Run a.c",
         "check a.c",
+        "run a.c --journal j",
+        "run --journal",
+        "run --journal j",
+        "run --journal= a.c",
+        "run --journal=-j a.c",
+        "run --journal -j a.c",
+        "run --journal j -a.c",
+        "run --journal a --journal b a.c",
+        "run --journal=a --journal=b a.c",
+        "run --Journal=j a.c",
     ] {
         let mut files = MemFiles::new(alloc).expect(&rt, "memory for files");
         let mut out = MemSink::new(alloc, 1000).expect(&rt, "memory for a sink");
@@ -318,4 +329,175 @@ fn a_failing_standard_error_leaves_the_status(rt: HostRuntime) {
     assert_eq!(rt; status, Status::ReadFault);
     assert_eq!(rt; out.bytes(), b"".as_slice());
     assert_eq!(rt; err.bytes(), b"closure".as_slice());
+}
+
+/// The first seven lines of a source of two levels.
+const PAIR: &str = "#pragma cle def PURPLE {\"level\":\"purple\"}
+#pragma cle def ORANGE {\"level\":\"orange\"}
+#pragma cle def RESP {\"level\":\"purple\"}
+#pragma cle def GETA {\"level\":\"orange\",\"cdf\":[{\"remotelevel\":\"purple\",\"direction\":\"bidirectional\",\"guarddirective\":{\"operation\":\"allow\"},\"argtaints\":[],\"codtaints\":[\"ORANGE\"],\"rettaints\":[\"RESP\"]}]}
+#pragma cle ORANGE
+int a;
+#pragma cle GETA
+";
+
+/// The first seven lines and then this text.
+fn with_pair(rt: &impl Abort, alloc: Global, text: &str) -> String {
+    let mut source = String::from_str(alloc, PAIR).expect(rt, "memory for a source");
+    source.push_str(text).expect(rt, "memory for a source");
+    source
+}
+
+/// Runs the source with its journal, and compares text, status and the journal's bytes.
+fn check_journal(
+    rt: &impl Abort,
+    alloc: Global,
+    line: &str,
+    source: &str,
+    out_text: &str,
+    status: Status,
+    journal: &[u8],
+) {
+    let mut files = MemFiles::new(alloc).expect(rt, "memory for files");
+    let mut out = MemSink::new(alloc, 1000).expect(rt, "memory for a sink");
+    let mut err = MemSink::new(alloc, 1000).expect(rt, "memory for a sink");
+    files
+        .add("a.c", source.as_bytes())
+        .expect(rt, "memory for a file");
+    let answer = run_line(rt, alloc, line, &mut files, &mut out, &mut err);
+    assert_eq!(rt; answer, status, "{source}");
+    assert_eq!(rt; out.bytes(), out_text.as_bytes(), "{source}");
+    assert_eq!(rt; err.bytes(), b"".as_slice(), "{source}");
+    let Ok(kept) = files.read(alloc, "j", 1000) else {
+        assert!(rt; false, "{source}: no journal");
+        return;
+    };
+    assert_eq!(rt; kept.as_slice(), journal, "{source}");
+}
+
+#[test]
+fn two_levels_run(rt: HostRuntime) {
+    let alloc = rt.alloc();
+    let twelve = "int f(void) { a = a + 1; return a; }
+int main(void) { putchar(48 + f()); putchar(48 + f()); return 0; }
+";
+    // Two requests without payload, two replies of four bytes; each frame has the next turn.
+    let two_calls = b"\0\0\0\x01\0\0\0\x01\0\0\0\x01\0\0\0\0\0\0\0\x01\0\0\0\0\0\
+\0\0\0\x01\0\0\0\x01\0\0\0\x02\0\0\0\0\0\0\0\x02\0\0\0\0\x04\0\0\0\x01\
+\0\0\0\x01\0\0\0\x01\0\0\0\x01\0\0\0\0\0\0\0\x03\0\0\0\0\0\
+\0\0\0\x01\0\0\0\x01\0\0\0\x02\0\0\0\0\0\0\0\x04\0\0\0\0\x04\0\0\0\x02"
+        .as_slice();
+    let overflow = "int f(void) { a = a + 2147483647; return a; }
+int main(void) { putchar(65); return f() - f(); }
+";
+    // The second reply is broken: kind 2 and no payload.
+    let broken = b"\0\0\0\x01\0\0\0\x01\0\0\0\x01\0\0\0\0\0\0\0\x01\0\0\0\0\0\
+\0\0\0\x01\0\0\0\x01\0\0\0\x02\0\0\0\0\0\0\0\x02\0\0\0\0\x04\x7f\xff\xff\xff\
+\0\0\0\x01\0\0\0\x01\0\0\0\x01\0\0\0\0\0\0\0\x03\0\0\0\0\0\
+\0\0\0\x01\0\0\0\x01\0\0\0\x02\0\0\0\0\0\0\0\x04\x02\0\0\0\0"
+        .as_slice();
+    for (line, text, out, status, journal) in [
+        (
+            "run --journal j a.c",
+            twelve,
+            "level purple 2 bytes\n12\nlevel orange 0 bytes\n\nframes 4\nend exit 0\n",
+            Status::Done,
+            two_calls,
+        ),
+        (
+            "run --journal=j a.c",
+            overflow,
+            "level purple 1 bytes\nA\nlevel orange 0 bytes\n\nframes 4\nend trap orange overflow line 8\n",
+            Status::Trapped,
+            broken,
+        ),
+        (
+            "run --journal j a.c",
+            "int f(void) { return 1; } int main(void) { return 7; }",
+            "level purple 0 bytes\n\nlevel orange 0 bytes\n\nframes 0\nend exit 7\n",
+            Status::Done,
+            b"".as_slice(),
+        ),
+    ] {
+        let source = with_pair(&rt, alloc, text);
+        check_journal(&rt, alloc, line, source.as_str(), out, status, journal);
+    }
+}
+
+#[test]
+fn one_level_has_an_empty_journal(rt: HostRuntime) {
+    let alloc = rt.alloc();
+    let source = with_level(&rt, alloc, "int main(void) { putchar(72); return 0; }");
+    check_journal(
+        &rt,
+        alloc,
+        "run --journal j a.c",
+        source.as_str(),
+        "level purple 1 bytes\nH\nframes 0\nend exit 0\n",
+        Status::Done,
+        b"".as_slice(),
+    );
+}
+
+#[test]
+fn a_failing_journal_is_told(rt: HostRuntime) {
+    let alloc = rt.alloc();
+    let source = with_level(&rt, alloc, "int main(void) { }");
+    let mut files = MemFiles::new(alloc).expect(&rt, "memory for files");
+    let mut out = MemSink::new(alloc, 1000).expect(&rt, "memory for a sink");
+    let mut err = MemSink::new(alloc, 1000).expect(&rt, "memory for a sink");
+    files
+        .add("a.c", source.as_str().as_bytes())
+        .expect(&rt, "memory for a file");
+    // The first call reads the source, the second writes the journal.
+    files.fail_at(2).expect(&rt, "memory for an entry");
+    let answer = run_line(
+        &rt,
+        alloc,
+        "run --journal j a.c",
+        &mut files,
+        &mut out,
+        &mut err,
+    );
+    assert_eq!(rt; answer.code(), 4);
+    assert_eq!(rt; out.bytes(), b"".as_slice());
+    assert_eq!(rt; err.bytes(), b"closure: cannot write j\n".as_slice());
+}
+
+/// A statement that writes an `A` and calls the other function 100 times.
+fn push_calls(rt: &impl Abort, source: &mut String) {
+    source
+        .push_str("putchar(65")
+        .expect(rt, "memory for a source");
+    for _ in 0..100u32 {
+        source.push_str("+f()").expect(rt, "memory for a source");
+    }
+    source.push_str(");\n").expect(rt, "memory for a source");
+}
+
+/// A call costs 54, so that 155,344 calls cost 8,388,576 and one more would pass 8,388,608.
+#[test]
+fn the_frame_budget_ends(rt: HostRuntime) {
+    let alloc = rt.alloc();
+    let mut source = with_pair(&rt, alloc, "int f(void) { return 0; }\nint main(void) {\n");
+    for _ in 0..1554u32 {
+        push_calls(&rt, &mut source);
+    }
+    source.push_str("}").expect(&rt, "memory for a source");
+    let mut files = MemFiles::new(alloc).expect(&rt, "memory for files");
+    let mut out = MemSink::new(alloc, 10_000).expect(&rt, "memory for a sink");
+    let mut err = MemSink::new(alloc, 1000).expect(&rt, "memory for a sink");
+    files
+        .add("a.c", source.as_str().as_bytes())
+        .expect(&rt, "memory for a file");
+    let answer = run_line(&rt, alloc, "run a.c", &mut files, &mut out, &mut err);
+    assert_eq!(rt; answer, Status::Trapped);
+    let last =
+        b"\nlevel orange 0 bytes\n\nframes 310688\nend trap purple frames line 1563\n".as_slice();
+    assert!(rt;
+        out.bytes()
+            .starts_with(b"level purple 1553 bytes\nA".as_slice())
+    );
+    assert!(rt; out.bytes().ends_with(last));
+    assert_eq!(rt; out.bytes().len(), 24 + 1553 + last.len());
 }

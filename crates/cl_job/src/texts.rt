@@ -1,7 +1,7 @@
 //! The texts that the program writes.
 
 ghost use Rattle.std.specs.Prelude.{◌≡◌, IfOk, codes, string_bytes, ◌++◌, ◌∷◌, [], OnOk};
-ghost use Rattle.cl_job.specs.Texts.{usage_text, refusal_text, read_fault_text, rule_label, rule_reason, cause_word, level_head, end_text, last_text, name_at};
+ghost use Rattle.cl_job.specs.Texts.{usage_text, refusal_text, read_fault_text, write_fault_text, rule_label, rule_reason, cause_word, level_head, end_text, last_text, name_at};
 
 use cl_base::name::Name;
 use cl_mean::outcome::{End, Trap};
@@ -57,6 +57,14 @@ pub fn read_fault_text(alloc: Global, path: &str) -> Result<String, AllocError>
     ensures { IfOk result (λ text. string_bytes text ≡ read_fault_text path.now) }
 {
     format!(in alloc; "closure: cannot read {path}\n")
+}
+
+/// The text of a write that failed.
+#[tactic(auto, unfolding(crate::specs::Texts::write_fault_text))]
+pub fn write_fault_text(alloc: Global, path: &str) -> Result<String, AllocError>
+    ensures { IfOk result (λ text. string_bytes text ≡ write_fault_text path.now) }
+{
+    format!(in alloc; "closure: cannot write {path}\n")
 }
 
 /// The word for a cause of a trap.

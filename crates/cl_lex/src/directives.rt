@@ -3,7 +3,7 @@
 ghost use Rattle.std.specs.Prelude.{◌≡◌, ◌+◌, ◌-◌, ◌^◌, ◌<◌, ◌≤◌, [], length, option_map, true, IfOk, IfSome};
 ghost use Rattle.std.specs.List.{list_all, position, prefix_len, suffix_len};
 ghost use Rattle.cl_tree.specs.Pieces.{is_bad, is_word};
-ghost use Rattle.cl_tree.specs.Directives.{is_type_word, is_specifier, is_control_word, is_other_keyword, is_keyword, part_after, is_code, is_open, shown, blanked, is_blank, behind_blanks, trimmed, word_len, word, behind_word, has_word, is_name, begins};
+ghost use Rattle.cl_tree.specs.Directives.{part_after, is_code, is_open, shown, blanked, is_blank, behind_blanks, trimmed, word_len, word, behind_word, has_word, is_name, begins};
 ghost use Rattle.cl_tree.specs.Directives.{allowed, is_header, inclusion, defined_as, definition, cle_named, cle, pragma, behind_hash, directive_words, directive_line, by_blanked, behind_def, begins_def, is_def, def_line, directive};
 ghost use Rattle.cl_tree.specs.declared.pieces.Part.TheVariants.{Code};
 
@@ -13,6 +13,7 @@ use cl_base::name::{Name, NoMemory};
 use cl_tree::bytes::Bytes;
 use cl_tree::pieces::{Part, Reading, Rule, Spelling};
 use cl_tree::token::{Lexeme, Pragma};
+use cl_tree::words::is_keyword;
 use std::alloc::{AllocError, Global};
 
 /// A name of these bytes.
@@ -24,82 +25,6 @@ pub fn name_of(alloc: Global, text: &[u8]) -> Result<Name, NoMemory>
     // Letters, digits and `_` are UTF-8.
     let text = str::from_utf8(text).unwrap_or("");
     Name::of(alloc, text)
-}
-
-#[tactic(auto, unfolding(cl_tree::specs::Directives::is_type_word))]
-fn is_type_word(name: &[u8]) -> bool
-    ensures { result ≡ is_type_word name.now }
-{
-    name == "char".as_bytes()
-        || name == "double".as_bytes()
-        || name == "float".as_bytes()
-        || name == "int".as_bytes()
-        || name == "long".as_bytes()
-        || name == "short".as_bytes()
-        || name == "signed".as_bytes()
-        || name == "unsigned".as_bytes()
-        || name == "void".as_bytes()
-        || name == "_Bool".as_bytes()
-        || name == "_Complex".as_bytes()
-        || name == "_Imaginary".as_bytes()
-}
-
-#[tactic(auto, unfolding(cl_tree::specs::Directives::is_specifier))]
-fn is_specifier(name: &[u8]) -> bool
-    ensures { result ≡ is_specifier name.now }
-{
-    name == "auto".as_bytes()
-        || name == "const".as_bytes()
-        || name == "extern".as_bytes()
-        || name == "inline".as_bytes()
-        || name == "register".as_bytes()
-        || name == "restrict".as_bytes()
-        || name == "static".as_bytes()
-        || name == "typedef".as_bytes()
-        || name == "volatile".as_bytes()
-        || name == "_Alignas".as_bytes()
-        || name == "_Atomic".as_bytes()
-        || name == "_Noreturn".as_bytes()
-        || name == "_Thread_local".as_bytes()
-}
-
-#[tactic(auto, unfolding(cl_tree::specs::Directives::is_control_word))]
-fn is_control_word(name: &[u8]) -> bool
-    ensures { result ≡ is_control_word name.now }
-{
-    name == "break".as_bytes()
-        || name == "case".as_bytes()
-        || name == "continue".as_bytes()
-        || name == "default".as_bytes()
-        || name == "do".as_bytes()
-        || name == "else".as_bytes()
-        || name == "for".as_bytes()
-        || name == "goto".as_bytes()
-        || name == "if".as_bytes()
-        || name == "return".as_bytes()
-        || name == "switch".as_bytes()
-        || name == "while".as_bytes()
-}
-
-#[tactic(auto, unfolding(cl_tree::specs::Directives::is_other_keyword))]
-fn is_other_keyword(name: &[u8]) -> bool
-    ensures { result ≡ is_other_keyword name.now }
-{
-    name == "enum".as_bytes()
-        || name == "sizeof".as_bytes()
-        || name == "struct".as_bytes()
-        || name == "union".as_bytes()
-        || name == "_Alignof".as_bytes()
-        || name == "_Generic".as_bytes()
-        || name == "_Static_assert".as_bytes()
-}
-
-/// Whether a name is one of the keywords of C11 6.4.1.
-#[tactic(auto, unfolding(cl_tree::specs::Directives::is_keyword))]
-fn is_keyword(name: &[u8]) -> bool
-    ensures { result ≡ is_keyword name.now }
-{
-    is_type_word(name) || is_specifier(name) || is_control_word(name) || is_other_keyword(name)
 }
 
 #[tactic(auto, unfolding(cl_tree::specs::Directives::part_after))]

@@ -1,4 +1,6 @@
+pub mod State
 pub mod Evaluation
 pub mod Execution
+pub mod Calls
+pub mod Journal
 pub mod Meaning
-pub mod State

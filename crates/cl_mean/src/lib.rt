@@ -2,5 +2,6 @@
 #![tactic(auto)]
 
 pub mod checked;
+pub mod crossing;
 pub mod outcome;
 pub mod state;

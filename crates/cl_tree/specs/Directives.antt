@@ -1,11 +1,10 @@
 -- What a directive line means. Its blanks are spaces, tabs, CR and comments.
-use Rattle.std.specs.Prelude.{ℕ, ◌+◌, ◌-◌, Bool, true, false, not, ◌&&◌, ◌||◌, ◌==◌, nat_lt, List, [], ◌∷◌, ◌++◌, Option, Some, None, length, take, drop, slice_index, codes, if◌then◌else◌}
-use Rattle.std.specs.List.{list_any, prefix_len, suffix_len, position}
+use Rattle.std.specs.Prelude.{ℕ, ◌-◌, Bool, true, false, not, ◌&&◌, ◌||◌, ◌==◌, nat_lt, List, [], ◌∷◌, ◌++◌, Option, Some, None, length, take, drop, slice_index, codes, if◌then◌else◌}
+use Rattle.std.specs.List.{prefix_len, suffix_len, position}
 use Rattle.std.specs.Str.{bytes_eq}
 use Rattle.cl_tree.specs.declared.pieces.Part.{Part}
 use Rattle.cl_tree.specs.declared.pieces.Part.TheVariants.{Code, Opened, Inside, ToEnd}
 use Rattle.cl_tree.specs.declared.pieces.Rule.TheVariants.{E02, E05}
-use Rattle.cl_tree.specs.declared.pieces.Literal.{Literal}
 use Rattle.cl_tree.specs.declared.pieces.Spelling.{Spelling}
 use Rattle.cl_tree.specs.declared.pieces.Spelling.TheVariants.{Wrong, Unfit, Holds}
 use Rattle.cl_tree.specs.declared.pieces.Reading.{Reading}
@@ -15,22 +14,7 @@ use Rattle.cl_tree.specs.declared.token.Pragma.{Pragma}
 use Rattle.cl_tree.specs.declared.token.Pragma.TheVariants.{Def, Begin, End, Next}
 use Rattle.cl_tree.specs.Pieces.{is_bad, is_letter, is_word}
 use Rattle.cl_tree.specs.Literals.{literal}
-
--- the keywords (C11 6.4.1)
-unfoldable pub is_type_word : List ℕ → Bool
-is_type_word name = list_any (bytes_eq name) (codes "char" ∷ codes "double" ∷ codes "float" ∷ codes "int" ∷ codes "long" ∷ codes "short" ∷ codes "signed" ∷ codes "unsigned" ∷ codes "void" ∷ codes "_Bool" ∷ codes "_Complex" ∷ codes "_Imaginary" ∷ [])
-
-unfoldable pub is_specifier : List ℕ → Bool
-is_specifier name = list_any (bytes_eq name) (codes "auto" ∷ codes "const" ∷ codes "extern" ∷ codes "inline" ∷ codes "register" ∷ codes "restrict" ∷ codes "static" ∷ codes "typedef" ∷ codes "volatile" ∷ codes "_Alignas" ∷ codes "_Atomic" ∷ codes "_Noreturn" ∷ codes "_Thread_local" ∷ [])
-
-unfoldable pub is_control_word : List ℕ → Bool
-is_control_word name = list_any (bytes_eq name) (codes "break" ∷ codes "case" ∷ codes "continue" ∷ codes "default" ∷ codes "do" ∷ codes "else" ∷ codes "for" ∷ codes "goto" ∷ codes "if" ∷ codes "return" ∷ codes "switch" ∷ codes "while" ∷ [])
-
-unfoldable pub is_other_keyword : List ℕ → Bool
-is_other_keyword name = list_any (bytes_eq name) (codes "enum" ∷ codes "sizeof" ∷ codes "struct" ∷ codes "union" ∷ codes "_Alignof" ∷ codes "_Generic" ∷ codes "_Static_assert" ∷ [])
-
-unfoldable pub is_keyword : List ℕ → Bool
-is_keyword name = is_type_word name || is_specifier name || is_control_word name || is_other_keyword name
+use Rattle.cl_tree.specs.Words.{is_keyword}
 
 -- Comments become spaces, so that every other byte stays where it is.
 

@@ -3,7 +3,6 @@ use Rattle.std.specs.Prelude.{◌≡◌, ℕ, suc, ◌+◌, List, [], ◌∷◌,
 use Rattle.std.specs.List.{flat_map}
 use Rattle.cl_tree.specs.declared.token.Mark.{Mark}
 use Rattle.cl_tree.specs.declared.token.Mark.TheVariants as mark
-use Rattle.cl_tree.specs.declared.grammar.Keyword.{Keyword}
 use Rattle.cl_tree.specs.declared.grammar.Keyword.TheVariants as key
 use Rattle.cl_tree.specs.declared.grammar.Sign.{Sign}
 use Rattle.cl_tree.specs.declared.grammar.Sign.TheVariants as sign
@@ -15,7 +14,7 @@ use Rattle.cl_tree.specs.declared.tree.Stmt.{Stmt}
 use Rattle.cl_tree.specs.declared.tree.Item.{Item}
 use Rattle.cl_tree.specs.declared.tree.Item.TheVariants as item
 use Rattle.cl_tree.specs.declared.tree.Program.{Program}
-use Rattle.cl_tree.specs.Spelling.{Spelling, put_on, put, put_at, put_mark, put_key, key_on, commas, held_by, star_lines, floating_lines, other_lines, type_shape, is_empty, is_void, base_on, type_name, is_type_name, all_come}
+use Rattle.cl_tree.specs.Spelling.{Spelling, put_on, put, put_at, put_mark, put_key, key_on, commas, held_by, floating_lines, other_lines, is_empty, is_void, base_on, type_name, is_type_name, all_come}
 use Rattle.cl_tree.specs.Words.{Word}
 use Rattle.cl_tree.specs.Statements.{declarator, base_lines, first_lines, base_of, common_base, are_names, is_declarator, declaration, is_declaration, stmt_shape, statements, all_stmts}
 

@@ -6,7 +6,6 @@ use Rattle.cl_tree.specs.declared.kinds.IntKind.{IntKind}
 use Rattle.cl_tree.specs.declared.kinds.IntKind.TheVariants.{I8, U8, I16, U16, I32, U32, Long, ULong, LLong, ULLong}
 use Rattle.cl_tree.specs.declared.pieces.Width.{Width}
 use Rattle.cl_tree.specs.declared.pieces.Width.TheVariants as width
-use Rattle.cl_tree.specs.declared.pieces.Literal.{Literal}
 use Rattle.cl_tree.specs.declared.pieces.Literal.TheVariants.{Number, Byte}
 use Rattle.cl_tree.specs.declared.pieces.Spelling.{Spelling}
 use Rattle.cl_tree.specs.declared.pieces.Spelling.TheVariants.{Wrong, Unfit, Holds}

@@ -1,5 +1,5 @@
 -- How types and expressions are spelled as pieces, line by line, and which are well-formed.
-use Rattle.std.specs.Prelude.{◌≡◌, ℕ, zero, suc, ◌^◌, List, [], ◌∷◌, ◌++◌, map, Bool, true, false, not, ◌&&◌, ◌==◌, nat_le, nat_lt, bytes_eq}
+use Rattle.std.specs.Prelude.{◌≡◌, ℕ, zero, suc, ◌^◌, List, [], ◌∷◌, ◌++◌, map, Bool, true, false, ◌&&◌, ◌==◌, nat_le, nat_lt, bytes_eq}
 use Rattle.std.specs.List.{flat_map}
 use denote.Enum.Bare.{sameb}
 use Rattle.cl_tree.specs.contracts.kinds.IntKind.{the_type}
@@ -18,10 +18,10 @@ use Rattle.cl_tree.specs.declared.grammar.Sign.TheVariants as sign
 use Rattle.cl_tree.specs.declared.grammar.Piece.{Piece}
 use Rattle.cl_tree.specs.declared.tree.CType.{CType, CType-F, fold-CType}
 use Rattle.cl_tree.specs.declared.tree.CType.TheOpen as ctype
-use Rattle.cl_tree.specs.declared.tree.Expr.{Expr, Expr-F, fold-Expr}
+use Rattle.cl_tree.specs.declared.tree.Expr.{Expr, fold-Expr}
 use Rattle.cl_tree.specs.declared.tree.Node.{Node-F}
 use Rattle.cl_tree.specs.declared.tree.Node.TheOpen as node
-use Rattle.cl_tree.specs.Words.{Word, comes, is_literal}
+use Rattle.cl_tree.specs.Words.{comes, is_literal}
 
 -- ---- spellings
 

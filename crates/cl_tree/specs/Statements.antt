@@ -1,5 +1,5 @@
 -- How declarations and statements are spelled, and which are well-formed.
-use Rattle.std.specs.Prelude.{ℕ, suc, List, [], ◌∷◌, ◌++◌, map, Option, Some, None, Bool, true, false, not, ◌&&◌, ◌||◌, ◌==◌, nat_le}
+use Rattle.std.specs.Prelude.{ℕ, List, [], ◌∷◌, ◌++◌, map, Option, Some, None, Bool, true, false, not, ◌&&◌, ◌==◌, nat_le}
 use Rattle.std.specs.List.{flat_map}
 use Rattle.cl_tree.specs.declared.kinds.BinOp.{BinOp}
 use Rattle.cl_tree.specs.declared.kinds.BinOp.TheVariants as binary
@@ -16,10 +16,10 @@ use Rattle.cl_tree.specs.declared.tree.Init.{Init, Init-F, fold-Init}
 use Rattle.cl_tree.specs.declared.tree.Init.TheOpen as init
 use Rattle.cl_tree.specs.declared.tree.Declarator.{Declarator}
 use Rattle.cl_tree.specs.declared.tree.Declaration.{Declaration}
-use Rattle.cl_tree.specs.declared.tree.Stmt.{Stmt, Stmt-F, fold-Stmt}
+use Rattle.cl_tree.specs.declared.tree.Stmt.{Stmt, fold-Stmt}
 use Rattle.cl_tree.specs.declared.tree.Act.{Act-F}
 use Rattle.cl_tree.specs.declared.tree.Act.TheOpen as act
-use Rattle.cl_tree.specs.Spelling.{Spelling, put_on, put, put_at, mark_at, put_mark, key_on, key_at, put_key, commas, Holder, other_lines, floating_lines, star_lines, held_by, type_shape, same_base, is_void, is_empty, base_on, stars_on, dims_then, Shape, shape, all_proper}
+use Rattle.cl_tree.specs.Spelling.{Spelling, put_at, mark_at, put_mark, key_on, key_at, put_key, commas, other_lines, floating_lines, star_lines, held_by, type_shape, same_base, is_void, is_empty, base_on, stars_on, dims_then, shape}
 
 -- ---- declarations
 

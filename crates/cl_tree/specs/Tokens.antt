@@ -4,7 +4,7 @@ use Rattle.std.specs.List.{position, prefix_len}
 use Rattle.std.specs.Map.{update}
 use Rattle.std.specs.Str.{bytes_eq}
 use Rattle.cl_tree.specs.Joins.{bytes_of, places_of}
-use Rattle.cl_tree.specs.Pieces.{is_bad, is_piece, opening, mark, has}
+use Rattle.cl_tree.specs.Pieces.{is_bad, is_piece, opening, mark}
 use Rattle.cl_tree.specs.Literals.{integer, is_floating, letter, inside, unescaped}
 use Rattle.cl_tree.specs.Directives.{allowed, directive}
 use Rattle.cl_tree.specs.declared.token.Token.{Token}

@@ -1,5 +1,5 @@
 -- The words that are no names, the spellings of types, and what can come out of a source.
-use Rattle.std.specs.Prelude.{ℕ, ◌^◌, List, [], ◌∷◌, ◌++◌, map, length, Option, Some, None, is_none, Bool, true, false, not, ◌&&◌, ◌||◌, ◌==◌, nat_lt, nat_le, if◌then◌else◌, bytes_eq, codes}
+use Rattle.std.specs.Prelude.{ℕ, ◌^◌, List, [], ◌∷◌, map, Option, Some, None, is_none, Bool, true, false, not, ◌&&◌, ◌||◌, ◌==◌, nat_lt, nat_le, if◌then◌else◌, bytes_eq, codes}
 use Rattle.cl_tree.specs.declared.kinds.IntKind.{IntKind}
 use Rattle.cl_tree.specs.declared.kinds.IntKind.TheVariants.{I8, U8, I16, U16, I32, U32, Long, ULong, LLong, ULLong}
 use Rattle.cl_tree.specs.declared.token.Pragma.{Pragma}
@@ -7,7 +7,7 @@ use Rattle.cl_tree.specs.declared.token.Pragma.TheVariants as pragma
 use Rattle.cl_tree.specs.declared.grammar.Keyword.{Keyword}
 use Rattle.cl_tree.specs.declared.grammar.Sign.{Sign}
 use Rattle.cl_tree.specs.declared.grammar.Sign.TheVariants as sign
-use Rattle.cl_tree.specs.declared.grammar.TheConstants.{KEYWORDS, TYPE_WORDS, KINDS, REALS}
+use Rattle.cl_tree.specs.declared.grammar.TheConstants.{KEYWORDS, TYPE_KEYWORDS, FIXED_WIDTHS, KINDS, REALS}
 
 -- a name, or a text, by its bytes
 abbrev pub Word : Type 0
@@ -25,8 +25,18 @@ listed (w ∷ ws) word = bytes_eq w word || listed ws word
 unfoldable pub keyword : Word → Option Keyword
 keyword = entry (map (λ row. (row.0.now, row.1)) KEYWORDS)
 
+unfoldable pub is_type_keyword : Word → Bool
+is_type_keyword = listed (map (λ w. w.now) TYPE_KEYWORDS)
+
+unfoldable pub is_fixed_width : Word → Bool
+is_fixed_width = listed (map (λ w. w.now) FIXED_WIDTHS)
+
 unfoldable pub is_type_word : Word → Bool
-is_type_word = listed (map (λ w. w.now) TYPE_WORDS)
+is_type_word word = is_type_keyword word || is_fixed_width word
+
+-- one of the keywords of C11 6.4.1
+unfoldable pub is_keyword : Word → Bool
+is_keyword word = not (is_none (keyword word)) || is_type_keyword word
 
 -- the kind that a run of type words spells, given with one space between two words
 unfoldable pub kind_of : Word → Option IntKind

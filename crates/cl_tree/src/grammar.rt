@@ -105,8 +105,8 @@ pub const KEYWORDS: [(&[u8], Keyword); 36] = [
     (b"_Thread_local", Keyword::Unused),
 ];
 
-/// The type words: eight keywords, and the names of the types of fixed width (C11 7.20.1.1).
-pub const TYPE_WORDS: [&[u8]; 16] = [
+/// The keywords that are type words (C11 6.7.2).
+pub const TYPE_KEYWORDS: [&[u8]; 8] = [
     b"char",
     b"signed",
     b"unsigned",
@@ -115,6 +115,10 @@ pub const TYPE_WORDS: [&[u8]; 16] = [
     b"long",
     b"double",
     b"float",
+];
+
+/// The names of the types of fixed width (C11 7.20.1.1), which are type words and no keywords.
+pub const FIXED_WIDTHS: [&[u8]; 8] = [
     b"int8_t",
     b"uint8_t",
     b"int16_t",

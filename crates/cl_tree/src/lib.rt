@@ -8,3 +8,4 @@ pub mod kinds;
 pub mod pieces;
 pub mod token;
 pub mod tree;
+pub mod words;

@@ -1,0 +1,10 @@
+//! The reader: from tokens to the program that they spell.
+#![tactic(auto)]
+
+pub mod brackets;
+pub mod first;
+pub mod limits;
+pub mod reader;
+pub mod stop;
+#[cfg(test)]
+mod tests;

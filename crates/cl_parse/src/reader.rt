@@ -1,0 +1,88 @@
+//! From tokens to the program that they spell.
+
+ghost use Rattle.std.specs.Prelude.{◌≡◌, ◌⊎◌, ℕ, List, IfOk, IfErr, MatchResult};
+ghost use Rattle.cl_tree.specs.declared.token.Token.{Token as TokenValue};
+ghost use Rattle.cl_tree.specs.declared.tree.Program.{Program as ProgramValue};
+ghost use Rattle.cl_tree.specs.Items.{cut};
+ghost use Rattle.cl_tree.specs.Reading.{ReadsAs, WithinLimits, ParseFails};
+ghost use Rattle.cl_parse.specs.Answer.{IsFailure, ItemAnswer, ItemsAnswer, ProgramAnswer};
+
+use crate::first::first_item;
+use crate::limits::limit_passed;
+use crate::stop::ParseStop;
+use cl_parse_expr::cursor::line_of;
+use cl_parse_expr::stop::Stop;
+use cl_parse_stmt::whole::item;
+use cl_pieces::pieces::pieces;
+use cl_tree::grammar::Piece;
+use cl_tree::token::Token;
+use cl_tree::tree::{Item, Program};
+use sqlite_items::Items;
+use std::alloc::Global;
+
+/// One item, or E06 at its first piece.
+#[tactic(auto, using(crate::proofs::Itemwise::item_unread, crate::proofs::Itemwise::same_line))]
+fn read_item(alloc: Global, pieces: &[Piece]) -> Result<Item, ParseStop>
+    ensures { ItemAnswer pieces.now result }
+{
+    match item(alloc, pieces) {
+        Ok(read) => Ok(read),
+        Err(Stop::Memory) => Err(ParseStop::NoMemory),
+        Err(Stop::Unread) => Err(ParseStop::Rule {
+            rule: 6,
+            line: line_of(pieces),
+        }),
+    }
+}
+
+/// The items of pieces, one after the other.
+#[tactic(auto, using(crate::proofs::Itemwise::goes_cut, crate::proofs::Itemwise::goes_next, crate::proofs::Itemwise::goes_stop, crate::proofs::Itemwise::goes_done, crate::proofs::Cut::first_within, crate::proofs::Cut::first_some))]
+fn read_items(alloc: Global, pieces: &[Piece]) -> Result<Items<Item>, ParseStop>
+    ensures { ItemsAnswer (cut pieces.now) result }
+{
+    let mut done = Items::new(alloc);
+    let mut after = false;
+    let mut rest = pieces;
+    'items: while !rest.is_empty() {
+        let (size, closes) = first_item(alloc, after, rest)?;
+        let (first, next) = rest.split_at(size);
+        done.push(read_item(alloc, first)?)?;
+        after = closes;
+        rest = next;
+    }
+    Ok(done)
+}
+
+#[tactic(auto, unfolding(cl_tree::specs::Reading::passed_at))]
+fn read_program(alloc: Global, tokens: &[Token]) -> Result<Program, ParseStop>
+    ensures { ProgramAnswer tokens.now result }
+{
+    let pieces = pieces(alloc, tokens)?;
+    if let Some(line) = limit_passed(alloc, pieces.as_slice())? {
+        return Err(ParseStop::Rule { rule: 23, line });
+    }
+    let items = read_items(alloc, pieces.as_slice())?;
+    Ok(Program { items })
+}
+
+/// The program that tokens spell (C11 6.9, as far as the profile goes). E23 at the first token that
+/// passes a limit; where none does, E06 at the beginning of the first item that has no reading.
+#[tactic(auto, using(crate::proofs::Answered::answer_found, crate::proofs::Answered::answer_only, crate::proofs::Answered::answer_fails, crate::proofs::Answered::answer_rule))]
+pub fn parse(alloc: Global, tokens: &[Token]) -> Result<Program, ParseStop>
+    // What is read keeps the limits, and the tokens spell it.
+    ensures found { IfOk result (λ p. WithinLimits tokens.now × ReadsAs tokens.now p) }
+    // What the tokens spell is read, unless memory runs out.
+    ensures only { (p : ProgramValue) → WithinLimits tokens.now → ReadsAs tokens.now p → MatchResult result (λ x. x ≡ p) (λ e. e ≡ ParseStop.NoMemory) }
+    // A refusal names a rule that fails, and its line.
+    ensures fails { IfErr result (λ e. IsFailure tokens.now e) }
+    // Where a rule fails there is no program, and the refusal names that rule.
+    ensures rule { (rule line : ℕ) → ParseFails tokens.now rule line → MatchResult result (λ _. ⊥) (λ e. (e ≡ ParseStop.Rule rule line) ⊎ (e ≡ ParseStop.NoMemory)) }
+{
+    read_program(alloc, tokens)
+}
+
+/// No tokens are two programs.
+#[tactic(auto, using(crate::proofs::Reread::one_reading))]
+pub fn one_reading()
+    ensures { (tokens : List TokenValue) (p q : ProgramValue) → ReadsAs tokens p → ReadsAs tokens q → p ≡ q }
+{}

@@ -1,0 +1,7 @@
+pub mod Turns
+pub mod Shapes
+pub mod Marks
+pub mod TypeNames
+pub mod Sound
+pub mod Complete
+pub mod All

@@ -1,0 +1,4 @@
+pub mod Cursor
+pub mod Types
+pub mod Reading
+pub mod Whole

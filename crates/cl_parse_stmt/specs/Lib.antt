@@ -1,0 +1,4 @@
+pub mod Declaring
+pub mod Stating
+pub mod Itemising
+pub mod Whole

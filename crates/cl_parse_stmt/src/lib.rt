@@ -1,0 +1,9 @@
+//! The reader: from tokens to the program that they spell.
+#![tactic(auto)]
+
+pub mod declare;
+pub mod item;
+pub mod pragma;
+pub mod simple;
+pub mod stmt;
+pub mod whole;

@@ -1,0 +1,7 @@
+pub mod Parts
+pub mod Shapes
+pub mod DeclarationParts
+pub mod StatementParts
+pub mod ItemParts
+pub mod Differences
+pub mod Numbers

@@ -1,0 +1,461 @@
+//! How statements are spelled, and which are well-formed.
+
+ghost use Rattle.std.specs.Prelude.{◌≡◌, ◌++◌, [], map, option_map, IfOk, OnOk};
+ghost use Rattle.cl_tree.specs.Spelling.{shape, put_at, put_mark};
+ghost use Rattle.cl_tree.specs.Statements.{stmt_shape, statements, all_stmts, assign_mark, assigns, bump_mark, is_call, is_statement, is_simple, is_head, is_first, is_test, is_next};
+ghost use Rattle.cl_plain.specs.Wanting.{written};
+ghost use Rattle.cl_plain.specs.Parts.{first_part, test_part, next_part, else_part};
+
+use crate::declarations::{well_formed_declaration, write_declaration};
+use crate::expressions::{level, well_formed_expr, write_expr};
+use crate::wanted::{
+    Wanted, one_line, write_at, write_key, write_key_at, write_mark, write_mark_at,
+};
+use cl_base::name::NoMemory;
+use cl_tree::grammar::{Keyword, Sign};
+use cl_tree::kinds::BinOp;
+use cl_tree::token::{Mark, Pragma};
+use cl_tree::tree::{Act, Expr, Node, Stmt};
+use sqlite_items::{Boxed, Items};
+use std::alloc::Global;
+
+/// The mark of an assignment (C11 6.5.16); of an operator that has none, that of `=`.
+pub fn assign_mark(op: &Option<BinOp>) -> Mark
+    ensures { result ≡ assign_mark op.now }
+{
+    match op {
+        Some(BinOp::Add) => Mark::PlusAssign,
+        Some(BinOp::Sub) => Mark::MinusAssign,
+        Some(BinOp::Mul) => Mark::StarAssign,
+        Some(BinOp::Div) => Mark::SlashAssign,
+        Some(BinOp::Rem) => Mark::PercentAssign,
+        Some(BinOp::Left) => Mark::LeftAssign,
+        Some(BinOp::Right) => Mark::RightAssign,
+        Some(BinOp::BitAnd) => Mark::AmpAssign,
+        Some(BinOp::BitOr) => Mark::BarAssign,
+        Some(BinOp::Xor) => Mark::CaretAssign,
+        _ => Mark::Assign,
+    }
+}
+
+/// Whether there is such an assignment.
+pub fn assigns(op: &Option<BinOp>) -> bool
+    ensures { result ≡ assigns op.now }
+{
+    match op {
+        Some(BinOp::Or) => false,
+        Some(BinOp::And) => false,
+        Some(BinOp::Equal) => false,
+        Some(BinOp::Unequal) => false,
+        Some(BinOp::Less) => false,
+        Some(BinOp::Greater) => false,
+        Some(BinOp::AtMost) => false,
+        Some(BinOp::AtLeast) => false,
+        _ => true,
+    }
+}
+
+/// `++` or `--`.
+pub fn bump_mark(up: bool) -> Mark
+    ensures { result ≡ bump_mark up }
+{
+    if up { Mark::PlusPlus } else { Mark::MinusMinus }
+}
+
+/// Writes a line `#pragma cle`, which stands on this line.
+pub fn write_pragma_at(
+    alloc: Global,
+    out: &mut Items<Wanted>,
+    line: u32,
+    pragma: &Pragma,
+) -> Result<(), NoMemory>
+    ensures { OnOk result (written out.new ≡ written out.old ++ put_at line (Sign.Cle pragma.now) []) }
+{
+    let pragma = copy_pragma(alloc, pragma)?;
+    write_at(alloc, out, line, Sign::Cle(pragma))
+}
+
+fn copy_pragma(alloc: Global, pragma: &Pragma) -> Result<Pragma, NoMemory>
+    ensures { IfOk result (λ copy. copy ≡ pragma.now) }
+{
+    match pragma {
+        Pragma::Def(name, text) => Ok(Pragma::Def(name.copy(alloc)?, text.copy(alloc)?)),
+        Pragma::Begin(name) => Ok(Pragma::Begin(name.copy(alloc)?)),
+        Pragma::End(name) => Ok(Pragma::End(name.copy(alloc)?)),
+        Pragma::Next(name) => Ok(Pragma::Next(name.copy(alloc)?)),
+    }
+}
+
+/// Writes what stands before the `;` of a simple statement or a declaration, and nothing of another.
+#[tactic(auto, unfolding(cl_tree::specs::Statements::stmt_shape))]
+pub fn write_bare(alloc: Global, out: &mut Items<Wanted>, s: &Stmt) -> Result<(), NoMemory>
+    ensures { OnOk result (written out.new ≡ written out.old ++ (stmt_shape s.now).bare) }
+{
+    match &s.node {
+        Act::Set { op, place, value } => {
+            write_expr(alloc, out, place)?;
+            write_mark_at(alloc, out, s.second, assign_mark(op))?;
+            write_expr(alloc, out, value)
+        }
+        Act::Bump {
+            up,
+            prefix: true,
+            place,
+        } => {
+            write_mark_at(alloc, out, s.line, bump_mark(*up))?;
+            write_expr(alloc, out, place)
+        }
+        Act::Bump {
+            up,
+            prefix: false,
+            place,
+        } => {
+            write_expr(alloc, out, place)?;
+            write_mark_at(alloc, out, s.second, bump_mark(*up))
+        }
+        Act::Call(e) => write_expr(alloc, out, e),
+        Act::Declare(d) => {
+            let lines = one_line(alloc, s.line)?;
+            write_declaration(alloc, out, lines, d)
+        }
+        _ => Ok(()),
+    }
+}
+
+/// Writes a simple statement or a declaration with its `;`.
+fn write_ended(alloc: Global, out: &mut Items<Wanted>, s: &Stmt) -> Result<(), NoMemory>
+    ensures { OnOk result (written out.new ≡ written out.old ++ ((stmt_shape s.now).bare ++ put_mark Mark.Semicolon [])) }
+{
+    write_bare(alloc, out, s)?;
+    write_mark(alloc, out, Mark::Semicolon)
+}
+
+/// Writes a test in its parentheses.
+fn write_test(alloc: Global, out: &mut Items<Wanted>, test: &Expr) -> Result<(), NoMemory>
+    ensures { OnOk result (written out.new ≡ written out.old ++ put_mark Mark.OpenParen ((shape test.now).spelling ++ put_mark Mark.CloseParen [])) }
+{
+    write_mark(alloc, out, Mark::OpenParen)?;
+    write_expr(alloc, out, test)?;
+    write_mark(alloc, out, Mark::CloseParen)
+}
+
+#[tactic(auto, unfolding(crate::specs::Parts::test_part))]
+fn write_maybe_expr(
+    alloc: Global,
+    out: &mut Items<Wanted>,
+    e: &Option<Expr>,
+) -> Result<(), NoMemory>
+    ensures { OnOk result (written out.new ≡ written out.old ++ test_part e.now) }
+{
+    match e {
+        None => Ok(()),
+        Some(e) => write_expr(alloc, out, e),
+    }
+}
+
+/// Writes the last part of the head of a `for`, without a `;`.
+#[tactic(auto, unfolding(crate::specs::Parts::next_part))]
+fn write_next(
+    alloc: Global,
+    out: &mut Items<Wanted>,
+    next: &Option<Boxed<Stmt>>,
+) -> Result<(), NoMemory>
+    ensures { OnOk result (written out.new ≡ written out.old ++ next_part next.now) }
+{
+    match next {
+        None => Ok(()),
+        Some(next) => write_bare(alloc, out, next.get()),
+    }
+}
+
+/// Writes a statement (C11 6.8).
+#[cycle(spell)]
+#[tactic(auto, unfolding(cl_tree::specs::Statements::stmt_shape))]
+pub fn write_stmt(alloc: Global, out: &mut Items<Wanted>, s: &Stmt) -> Result<(), NoMemory>
+    ensures { OnOk result (written out.new ≡ written out.old ++ (stmt_shape s.now).spelling) }
+{
+    match &s.node {
+        Act::Empty => write_mark_at(alloc, out, s.line, Mark::Semicolon),
+        Act::Block(all) => {
+            write_mark_at(alloc, out, s.line, Mark::OpenBrace)?;
+            write_statements(alloc, out, all.as_slice())
+        }
+        Act::Set { .. } => write_ended(alloc, out, s),
+        Act::Bump { .. } => write_ended(alloc, out, s),
+        Act::Call(_) => write_ended(alloc, out, s),
+        Act::Declare(_) => write_ended(alloc, out, s),
+        Act::If(test, first, other) => {
+            write_key_at(alloc, out, s.line, Keyword::If)?;
+            write_test(alloc, out, test)?;
+            write_stmt(alloc, out, first.get())?;
+            write_else(alloc, out, other)
+        }
+        Act::While(test, body) => {
+            write_key_at(alloc, out, s.line, Keyword::While)?;
+            write_test(alloc, out, test)?;
+            write_stmt(alloc, out, body.get())
+        }
+        Act::DoWhile(body, test) => {
+            write_key_at(alloc, out, s.line, Keyword::Do)?;
+            write_stmt(alloc, out, body.get())?;
+            write_key(alloc, out, Keyword::While)?;
+            write_test(alloc, out, test)?;
+            write_mark(alloc, out, Mark::Semicolon)
+        }
+        Act::For {
+            first,
+            test,
+            next,
+            body,
+        } => {
+            write_key_at(alloc, out, s.line, Keyword::For)?;
+            write_mark(alloc, out, Mark::OpenParen)?;
+            write_first(alloc, out, first)?;
+            write_maybe_expr(alloc, out, test)?;
+            write_mark(alloc, out, Mark::Semicolon)?;
+            write_next(alloc, out, next)?;
+            write_mark(alloc, out, Mark::CloseParen)?;
+            write_stmt(alloc, out, body.get())
+        }
+        Act::Return(e) => {
+            write_key_at(alloc, out, s.line, Keyword::Return)?;
+            write_maybe_expr(alloc, out, e)?;
+            write_mark(alloc, out, Mark::Semicolon)
+        }
+        Act::Break => {
+            write_key_at(alloc, out, s.line, Keyword::Break)?;
+            write_mark(alloc, out, Mark::Semicolon)
+        }
+        Act::Continue => {
+            write_key_at(alloc, out, s.line, Keyword::Continue)?;
+            write_mark(alloc, out, Mark::Semicolon)
+        }
+        Act::Cle(pragma) => write_pragma_at(alloc, out, s.line, pragma),
+    }
+}
+
+/// Writes the first part of the head of a `for`, with its `;`.
+#[cycle(spell)]
+#[tactic(auto, unfolding(crate::specs::Parts::first_part))]
+fn write_first(
+    alloc: Global,
+    out: &mut Items<Wanted>,
+    first: &Option<Boxed<Stmt>>,
+) -> Result<(), NoMemory>
+    ensures { OnOk result (written out.new ≡ written out.old ++ first_part first.now) }
+{
+    match first {
+        None => write_mark(alloc, out, Mark::Semicolon),
+        Some(first) => write_stmt(alloc, out, first.get()),
+    }
+}
+
+#[cycle(spell)]
+#[tactic(auto, unfolding(crate::specs::Parts::else_part))]
+fn write_else(
+    alloc: Global,
+    out: &mut Items<Wanted>,
+    other: &Option<Boxed<Stmt>>,
+) -> Result<(), NoMemory>
+    ensures { OnOk result (written out.new ≡ written out.old ++ else_part other.now) }
+{
+    match other {
+        None => Ok(()),
+        Some(other) => {
+            write_key(alloc, out, Keyword::Else)?;
+            write_stmt(alloc, out, other.get())
+        }
+    }
+}
+
+/// Writes the statements of a block, and its end.
+#[cycle(spell)]
+pub fn write_statements(
+    alloc: Global,
+    out: &mut Items<Wanted>,
+    all: &[Stmt],
+) -> Result<(), NoMemory>
+    ensures { OnOk result (written out.new ≡ written out.old ++ statements (map stmt_shape all.now)) }
+{
+    for s in all {
+        write_stmt(alloc, out, s)?;
+    }
+    write_mark(alloc, out, Mark::CloseBrace)
+}
+
+/// What may stand where the grammar asks for a statement.
+#[tactic(auto, unfolding(cl_tree::specs::Statements::stmt_shape))]
+pub fn is_statement(s: &Stmt) -> bool
+    ensures { result ≡ is_statement (stmt_shape s.now).form }
+{
+    match &s.node {
+        Act::Declare(_) => false,
+        Act::Cle(_) => false,
+        _ => true,
+    }
+}
+
+/// What may stand last in the head of a `for`.
+#[tactic(auto, unfolding(cl_tree::specs::Statements::stmt_shape))]
+pub fn is_simple(s: &Stmt) -> bool
+    ensures { result ≡ is_simple (stmt_shape s.now).form }
+{
+    match &s.node {
+        Act::Set { .. } => true,
+        Act::Bump { .. } => true,
+        Act::Call(_) => true,
+        _ => false,
+    }
+}
+
+/// What may stand first in the head of a `for`.
+#[tactic(auto, unfolding(cl_tree::specs::Statements::stmt_shape))]
+pub fn is_head(s: &Stmt) -> bool
+    ensures { result ≡ is_head (stmt_shape s.now).form }
+{
+    match &s.node {
+        Act::Set { .. } => true,
+        Act::Bump { .. } => true,
+        Act::Call(_) => true,
+        Act::Declare(_) => true,
+        _ => false,
+    }
+}
+
+/// Whether it ends in an `if` without `else`.
+#[tactic(auto, unfolding(cl_tree::specs::Statements::stmt_shape))]
+pub fn is_dangling(s: &Stmt) -> bool
+    ensures { result ≡ (stmt_shape s.now).dangling }
+{
+    match &s.node {
+        Act::If(_, _, None) => true,
+        Act::If(_, _, Some(other)) => is_dangling(other.get()),
+        Act::While(_, body) => is_dangling(body.get()),
+        Act::For { body, .. } => is_dangling(body.get()),
+        _ => false,
+    }
+}
+
+/// Whether the expression is a call.
+#[tactic(auto, unfolding(cl_tree::specs::Statements::is_call))]
+pub fn is_call(e: &Expr) -> bool
+    ensures { result ≡ is_call e.now }
+{
+    match &e.node {
+        Node::Call(_, _) => true,
+        _ => false,
+    }
+}
+
+fn is_test(test: &Option<Expr>) -> bool
+    ensures { result ≡ is_test test.now }
+{
+    match test {
+        None => true,
+        Some(e) => well_formed_expr(e),
+    }
+}
+
+/// Whether the statement has a form of the grammar, and keeps the lines of the pieces that it is to
+/// keep. It may still be one that stands only in a block, as a declaration.
+#[cycle(proper)]
+#[tactic(auto, unfolding(cl_tree::specs::Statements::stmt_shape))]
+pub fn well_formed_stmt(s: &Stmt) -> bool
+    ensures { result ≡ (stmt_shape s.now).proper }
+{
+    match &s.node {
+        Act::Empty => s.second == s.line,
+        Act::Block(all) => s.second == s.line && all_stmts(all.as_slice()),
+        Act::Set { op, place, value } => {
+            s.line == place.line
+                && (assigns(op)
+                    && (13 <= level(place) && (well_formed_expr(place) && well_formed_expr(value))))
+        }
+        Act::Bump {
+            prefix: true,
+            place,
+            ..
+        } => s.second == s.line && (13 <= level(place) && well_formed_expr(place)),
+        Act::Bump {
+            prefix: false,
+            place,
+            ..
+        } => s.line == place.line && (13 <= level(place) && well_formed_expr(place)),
+        Act::Call(e) => {
+            s.line == e.line && (s.second == s.line && (is_call(e) && well_formed_expr(e)))
+        }
+        Act::If(test, first, None) => {
+            s.second == s.line
+                && (well_formed_expr(test)
+                    && (is_statement(first.get()) && well_formed_stmt(first.get())))
+        }
+        Act::If(test, first, Some(other)) => {
+            s.second == s.line
+                && (well_formed_expr(test)
+                    && (!is_dangling(first.get())
+                        && ((is_statement(first.get()) && well_formed_stmt(first.get()))
+                            && (is_statement(other.get()) && well_formed_stmt(other.get())))))
+        }
+        Act::While(test, body) => {
+            s.second == s.line
+                && (well_formed_expr(test)
+                    && (is_statement(body.get()) && well_formed_stmt(body.get())))
+        }
+        Act::DoWhile(body, test) => {
+            s.second == s.line
+                && ((is_statement(body.get()) && well_formed_stmt(body.get()))
+                    && well_formed_expr(test))
+        }
+        Act::For {
+            first,
+            test,
+            next,
+            body,
+        } => {
+            s.second == s.line
+                && (is_first(first)
+                    && (is_test(test)
+                        && (is_next(next)
+                            && (is_statement(body.get()) && well_formed_stmt(body.get())))))
+        }
+        Act::Return(None) => s.second == s.line,
+        Act::Return(Some(e)) => s.second == s.line && well_formed_expr(e),
+        Act::Break => s.second == s.line,
+        Act::Continue => s.second == s.line,
+        Act::Declare(d) => s.second == s.line && well_formed_declaration(d),
+        Act::Cle(_) => s.second == s.line,
+    }
+}
+
+#[cycle(proper)]
+fn is_first(first: &Option<Boxed<Stmt>>) -> bool
+    ensures { result ≡ is_first (option_map stmt_shape first.now) }
+{
+    match first {
+        None => true,
+        Some(s) => is_head(s.get()) && well_formed_stmt(s.get()),
+    }
+}
+
+#[cycle(proper)]
+fn is_next(next: &Option<Boxed<Stmt>>) -> bool
+    ensures { result ≡ is_next (option_map stmt_shape next.now) }
+{
+    match next {
+        None => true,
+        Some(s) => is_simple(s.get()) && well_formed_stmt(s.get()),
+    }
+}
+
+/// Whether all are well-formed.
+#[cycle(proper)]
+pub fn all_stmts(all: &[Stmt]) -> bool
+    ensures { result ≡ all_stmts (map stmt_shape all.now) }
+{
+    for s in all {
+        if !well_formed_stmt(s) {
+            return false;
+        }
+    }
+    true
+}

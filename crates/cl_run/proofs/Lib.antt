@@ -1,0 +1,6 @@
+pub mod Journal
+pub mod Levels
+pub mod Places
+pub mod Rows
+pub mod Sends
+pub mod Start

@@ -1,0 +1,3 @@
+pub mod Hal
+pub mod Take
+pub mod Passing

@@ -1,0 +1,22 @@
+// Sources in tables. What is wanted comes from C11 and the rules of the profile.
+
+mod kinds;
+mod limits;
+mod refusals;
+mod shown;
+mod spelling;
+mod values;
+
+use cl_base::limits::SOURCE_BYTES;
+use cl_front::read::read_source;
+use cl_front::stop::FrontStop;
+use cl_tree::tree::Program;
+use std::alloc::Global;
+
+fn read(alloc: Global, source: &str) -> Result<Program, FrontStop> {
+    let bytes = source.as_bytes();
+    if bytes.len() > SOURCE_BYTES {
+        return Err(FrontStop::NoMemory);
+    }
+    read_source(alloc, bytes)
+}

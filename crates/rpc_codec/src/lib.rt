@@ -1,0 +1,7 @@
+//! The bytes that levels send to one another: the headers of frames, the buffer of one frame, and payloads.
+#![tactic(auto)]
+
+pub mod frame;
+pub mod payload;
+#[cfg(test)]
+mod tests;
