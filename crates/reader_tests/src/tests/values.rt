@@ -65,6 +65,7 @@ fn whole_sources(rt: HostRuntime) -> Result<(), Fail> {
         ("int main(void) { return 1 - 2 - 3; }", "Sub(Sub(1, 2), 3)"),
         ("int a = 0x80000000;", "2147483648:U32"),
         ("int a = 2147483648;", "2147483648:Long"),
+        ("int a = 0xffffffffffffffff;", "18446744073709551615:ULong"),
         ("#define N 7u\nlong a = N;", "7:U32"),
     ] {
         assert_eq!(rt; value_in(alloc, source)?.as_str(), wanted, "at {source:?}");
