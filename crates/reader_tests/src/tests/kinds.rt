@@ -7,13 +7,14 @@ use cl_tree::tree::{CType, Declarator, Item, Program};
 use std::alloc::Global;
 use std::test::Fail;
 
-// What a declared type is: an integer kind, a floating type, or another.
+// What a declared type is, or why the source is not read.
 #[derive(Clone, Copy, Debug, PartialEq, Eq)]
 enum Found {
     Kind(IntKind),
     Floating,
     Other,
     Refused(u8),
+    NoMemory,
 }
 
 fn type_of(names: &[Declarator]) -> Found {
@@ -39,7 +40,7 @@ fn declared(alloc: Global, spelling: &str) -> Result<Found, Fail> {
     match read(alloc, source.as_str()) {
         Ok(program) => Ok(variable(&program)),
         Err(FrontStop::Refused { rule, .. }) => Ok(Found::Refused(rule)),
-        Err(FrontStop::NoMemory) => Ok(Found::Other),
+        Err(FrontStop::NoMemory) => Ok(Found::NoMemory),
     }
 }
 
