@@ -15,3 +15,9 @@ pub record ReadsWithin (source : List ℕ) (program : Program) : Type 0 where
 -- the first rule that fails, and its line: a lexical one, else one of the reader's over the source's tokens
 abbrev pub FailsFirst : List ℕ → ℕ → ℕ → Type 0
 FailsFirst source rule line = LexFails source rule line ⊎ ((tokens : List Token) × AreTokens source tokens × ParseFails tokens rule line)
+
+abbrev pub HasProgram : List ℕ → Type 0
+HasProgram source = (program : Program) × ReadsWithin source program
+
+abbrev pub HasFailure : List ℕ → Type 0
+HasFailure source = (rule : ℕ) × (line : ℕ) × FailsFirst source rule line

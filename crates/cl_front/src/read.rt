@@ -2,7 +2,7 @@
 
 ghost use Rattle.std.specs.Prelude.{◌≡◌, ◌⊎◌, ℕ, ◌≤◌, List, length, IfOk, IfErr, MatchResult};
 ghost use Rattle.cl_tree.specs.declared.tree.Program.{Program as ProgramValue};
-ghost use Rattle.cl_front.specs.Source.{ReadsWithin, FailsFirst};
+ghost use Rattle.cl_front.specs.Source.{ReadsWithin, FailsFirst, HasProgram, HasFailure};
 ghost use Rattle.cl_front.specs.Answer.{IsFailure};
 
 use crate::stop::FrontStop;
@@ -32,4 +32,11 @@ pub fn read_source(alloc: Global, bytes: &[u8]) -> Result<Program, FrontStop>
 /// No source is two programs.
 pub fn one_reading()
     ensures { (source : List ℕ) (p q : ProgramValue) → ReadsWithin source p → ReadsWithin source q → p ≡ q }
+{}
+
+/// A law: each source has a program or a rule that fails first, and not both; and no source fails in two ways.
+pub fn one_answer()
+    ensures some { (source : List ℕ) → HasProgram source ⊎ HasFailure source }
+    ensures not_both { (source : List ℕ) → HasProgram source → HasFailure source → ⊥ }
+    ensures one_failure { (source : List ℕ) (rule line r l : ℕ) → FailsFirst source rule line → FailsFirst source r l → (rule ≡ r) × (line ≡ l) }
 {}

@@ -5,13 +5,16 @@ use Rattle.std.proofs.lemmas.Bool.{false≢true}
 use Rattle.std.proofs.lemmas.List.{length-drop, drop-drop, take-append-drop, append_cancel_left}
 use Rattle.cl_tree.specs.declared.pieces.Rule.{Rule}
 use Rattle.cl_tree.specs.declared.pieces.Place.{Place}
-use Rattle.cl_tree.specs.declared.pieces.Reading.{Reading}
+use Rattle.cl_tree.specs.declared.pieces.PieceMeaning.{PieceMeaning}
 use Rattle.cl_tree.specs.declared.token.Token.{Token}
 use Rattle.cl_lex.specs.declared.lex.LexStop.{LexStop}
 use Rattle.cl_lex.specs.declared.lex.LexStop.TheVariants as stop
 use Rattle.cl_tree.specs.Joins.{bytes_of, places_of}
-use Rattle.cl_tree.specs.Pieces.{first_opening, is_bad, is_piece, opening, opening_in, opening_of}
-use Rattle.cl_tree.specs.Tokens.{Before, Meanings, at_start, behind, IsTaken, IsUnclosed, IsNothing, IsStuck, must_close, reading, fresh_after, meanings_after, flaw, flaw_as, IsCut, IsFault, IsLexed, FailsAt, HasOneAnswer, tokens_from, token_as, joined, place_at, number_of}
+use Rattle.cl_tree.specs.Letters.{is_bad, is_on_line, is_blank, is_printable, is_newline}
+use Rattle.cl_tree.specs.declared.pieces.Closed.{Closed}
+use Rattle.cl_tree.specs.declared.pieces.Opening.TheVariants.{Closes}
+use Rattle.cl_tree.specs.Pieces.{first_opening, is_piece, opening, opening_in, opening_of}
+use Rattle.cl_tree.specs.Tokens.{Before, Definitions, at_start, behind, IsTaken, IsUnclosed, IsNothing, IsStuck, must_close, unfinished, piece_meaning, fresh_after, definitions_after, flaw, flaw_as, IsCut, IsFault, IsLexed, FailsAt, HasOneAnswer, tokens_from, token_as, joined, place_at, number_of}
 use Rattle.cl_lex.specs.Found.{before, AreLexed, IsPieceOf, IsFailure, IsHalt, IsStop}
 use Rattle.cl_lex.specs.declared.pieces.Halt.{Halt}
 use Rattle.cl_lex.specs.declared.pieces.Halt.TheVariants.{Fault}
@@ -20,7 +23,7 @@ true_false : (t : Bool) → t ≡ true → t ≡ false → ⊥
 true_false t a b = false≢true (sym b ∙ a)
 
 -- a piece is not empty
-piece_some : (f : Bool) (p : List ℕ) → is_piece f p ≡ true → 0 < length p
+pub piece_some : (f : Bool) (p : List ℕ) → is_piece f p ≡ true → 0 < length p
 unfolding is_piece
 piece_some f [] e = absurd (false≢true e)
 piece_some f (b ∷ bs) e = omega arith
@@ -33,23 +36,26 @@ taken_unique f p q text a b =
     let e : length p ≡ length q = grind (arith, not_longer f p q text a b, not_longer f q p text b a) in
     a.front ∙ ap (λ n. take n text) e ∙ sym b.front
 
-pub taken_unclosed : (f : Bool) (p text : List ℕ) → IsTaken f p text → IsUnclosed f text → ⊥
-taken_unclosed f p text a s = true_false (is_piece f p) a.piece (ap (is_piece f) a.front ∙ s.none (length p) (a.closed s.opens) a.within)
+pub taken_unclosed : (f : Bool) (p text : List ℕ) (k : Closed) → IsTaken f p text → IsUnclosed f text k → ⊥
+taken_unclosed f p text k a s = true_false (is_piece f p) a.piece (ap (is_piece f) a.front ∙ s.none (length p) (a.closed (ap must_close s.opens)) a.within)
 
 pub taken_nothing : (f : Bool) (p text : List ℕ) → IsTaken f p text → IsNothing f text → ⊥
 taken_nothing f p text a s = true_false (is_piece f p) a.piece (ap (is_piece f) a.front ∙ s.none (length p) (piece_some f p a.piece) a.within)
 
 pub taken_stuck : (f : Bool) (p text : List ℕ) (r : Rule) (i : ℕ) → IsTaken f p text → IsStuck f text r i → ⊥
-taken_stuck f p text r i a (inl s) = taken_unclosed f p text a s.0
+taken_stuck f p text r i a (inl s) = taken_unclosed f p text s.0 a s.1
 taken_stuck f p text r i a (inr s) = taken_nothing f p text a s.0
 
 pair_same : (r q : Rule) (i j : ℕ) (o : Rule × ℕ) → o ≡ (r, i) → o ≡ (q, j) → (r ≡ q) × (i ≡ j)
 pair_same r q i j o a b = let e : ◌≡◌ {A = Rule × ℕ} (r, i) (q, j) = sym a ∙ b in (ap (λ (x : Rule × ℕ). x.0) e, ap (λ (x : Rule × ℕ). x.1) e)
 
+same_kind : (k l : Closed) → Closes k ≡ Closes l → l ≡ k
+same_kind k l e = cc
+
 pub stuck_unique : (f : Bool) (text : List ℕ) (r q : Rule) (i j : ℕ) → IsStuck f text r i → IsStuck f text q j → (r ≡ q) × (i ≡ j)
-stuck_unique f text r q i j (inl a) (inl b) = pair_same r q i j _ a.1 b.1
-stuck_unique f text r q i j (inl a) (inr b) = absurd (true_false _ a.0.opens b.0.free)
-stuck_unique f text r q i j (inr a) (inl b) = absurd (true_false _ b.0.opens a.0.free)
+stuck_unique f text r q i j (inl a) (inl b) = pair_same r q i j _ (ap (λ k. unfinished k text) (same_kind a.0 b.0 (sym a.1.opens ∙ b.1.opens)) ∙ a.2) b.2
+stuck_unique f text r q i j (inl a) (inr b) = absurd (true_false _ (ap must_close a.1.opens) b.0.free)
+stuck_unique f text r q i j (inr a) (inl b) = absurd (true_false _ (ap must_close b.1.opens) a.0.free)
 stuck_unique f text r q i j (inr a) (inr b) = pair_same r q i j _ a.1 b.1
 
 -- a rest at which no piece without a flaw stands
@@ -60,12 +66,12 @@ last_empty : (s : Before) → IsLast s []
 last_empty s p a e = let h = piece_some s.fresh p a.piece in let w = a.within in omega arith
 
 empty_opens : (f : Bool) → must_close (opening f []) ≡ true → ⊥
-unfolding opening_in opening_of first_opening is_bad
+unfolding opening_in opening_of first_opening is_bad is_on_line is_blank is_printable is_newline
 empty_opens true e = false≢true e
 empty_opens false e = false≢true e
 
 empty_stuck : (f : Bool) (r : Rule) (i : ℕ) → IsStuck f [] r i → ⊥
-empty_stuck f r i (inl a) = empty_opens f a.0.opens
+empty_stuck f r i (inl a) = empty_opens f (ap must_close a.1.opens)
 empty_stuck f r i (inr a) = let h = a.0.some in omega arith
 
 empty_fault : (s : Before) (r : Rule) (i : ℕ) → IsFault s [] r i → ⊥
@@ -131,9 +137,9 @@ one_answer source = (
   λ rule line other place. fails_unique (bytes_of source) (places_of source) rule other line place,
 )
 
-pub flaw_from : (s : Before) (p : List ℕ) (found : Reading) (r : Rule) (i : ℕ) → found ≡ reading s.fresh p → flaw_as s.meanings found ≡ Some (r, i) → flaw s p ≡ Some (r, i)
+pub flaw_from : (s : Before) (p : List ℕ) (found : PieceMeaning) (r : Rule) (i : ℕ) → found ≡ piece_meaning s.fresh p → flaw_as s.definitions found ≡ Some (r, i) → flaw s p ≡ Some (r, i)
 unfolding flaw
-flaw_from s p found r i e f = ap (flaw_as s.meanings) (sym e) ∙ f
+flaw_from s p found r i e f = ap (flaw_as s.definitions) (sym e) ∙ f
 
 -- one piece more
 cut_more : (s : Before) (ps : List (List ℕ)) (text rest p after : List ℕ) (g : Before) → IsCut s ps text g rest → IsTaken g.fresh p rest → flaw g p ≡ None → rest ≡ p ++ after → IsCut s (ps ++ p ∷ []) text (behind g p) after
@@ -144,28 +150,28 @@ cut_shorter : (s : Before) (ps : List (List ℕ)) (text rest : List ℕ) (g : Be
 cut_shorter s [] text rest g c = omega (arith, ap length c.1)
 cut_shorter s (q ∷ ps) text rest g c = let h = cut_shorter (behind s q) ps c.2 rest g c.4 in omega (arith, ap length c.3, length-append q c.2)
 
-tokens_more : (places : List Place) (s : Before) (at : ℕ) (ps : List (List ℕ)) (text rest p : List ℕ) (g : Before) → IsCut s ps text g rest → tokens_from places s at (ps ++ p ∷ []) ≡ tokens_from places s at ps ++ token_as g.meanings (reading g.fresh p) places (at + (length text - length rest)) (length p)
+tokens_more : (places : List Place) (s : Before) (at : ℕ) (ps : List (List ℕ)) (text rest p : List ℕ) (g : Before) → IsCut s ps text g rest → tokens_from places s at (ps ++ p ∷ []) ≡ tokens_from places s at ps ++ token_as g.definitions (piece_meaning g.fresh p) places (at + (length text - length rest)) (length p)
 tokens_more places s at [] text rest p g c =
     let e : at ≡ at + (length text - length rest) = omega (arith, ap length c.1) in
-    append-nil (token_as s.meanings (reading s.fresh p) places at (length p)) ∙ (λ i. token_as (c.0 i).meanings (reading (c.0 i).fresh p) places (e i) (length p))
+    append-nil (token_as s.definitions (piece_meaning s.fresh p) places at (length p)) ∙ (λ i. token_as (c.0 i).definitions (piece_meaning (c.0 i).fresh p) places (e i) (length p))
 tokens_more places s at (q ∷ ps) text rest p g c =
     let u = behind s q in
     let h = cut_shorter u ps c.2 rest g c.4 in
-    let here = token_as s.meanings (reading s.fresh q) places at (length q) in
+    let here = token_as s.definitions (piece_meaning s.fresh q) places at (length q) in
     let e : at + length q + (length c.2 - length rest) ≡ at + (length text - length rest) = omega (arith, ap length c.3, length-append q c.2) in
-    ap (λ x. here ++ x) (tokens_more places u (at + length q) ps c.2 rest p g c.4 ∙ ap (λ n. tokens_from places u (at + length q) ps ++ token_as g.meanings (reading g.fresh p) places n (length p)) e)
-    ∙ sym (append_assoc here (tokens_from places u (at + length q) ps) (token_as g.meanings (reading g.fresh p) places (at + (length text - length rest)) (length p)))
+    ap (λ x. here ++ x) (tokens_more places u (at + length q) ps c.2 rest p g c.4 ∙ ap (λ n. tokens_from places u (at + length q) ps ++ token_as g.definitions (piece_meaning g.fresh p) places n (length p)) e)
+    ∙ sym (append_assoc here (tokens_from places u (at + length q) ps) (token_as g.definitions (piece_meaning g.fresh p) places (at + (length text - length rest)) (length p)))
 
-pub none_yet : (text : List ℕ) (places : List Place) (ts : List Token) (m : Meanings) → ts ≡ [] → ((q : List ℕ) → m q ≡ None) → AreLexed text places ts (before true m) text
+pub none_yet : (text : List ℕ) (places : List Place) (ts : List Token) (m : Definitions) → ts ≡ [] → ((q : List ℕ) → m q ≡ None) → AreLexed text places ts (before true m) text
 unfolding at_start
-none_yet text places ts m k e = record { pieces = []; cut = ((λ i. record { fresh = true; meanings = λ q. sym (e q) i }), refl); tokens = k }
+none_yet text places ts m k e = record { pieces = []; cut = ((λ i. record { fresh = true; definitions = λ q. sym (e q) i }), refl); tokens = k }
 
-behind_is : (s : Before) (p : List ℕ) (fresh : Bool) (found : Reading) (m : Meanings) → fresh ≡ fresh_after s.fresh p → found ≡ reading s.fresh p → ((q : List ℕ) → m q ≡ meanings_after s.meanings found q) → behind s p ≡ before fresh m
+behind_is : (s : Before) (p : List ℕ) (fresh : Bool) (found : PieceMeaning) (m : Definitions) → fresh ≡ fresh_after s.fresh p → found ≡ piece_meaning s.fresh p → ((q : List ℕ) → m q ≡ definitions_after s.definitions found q) → behind s p ≡ before fresh m
 unfolding behind
-behind_is s p fresh found m e r k = λ i. record { fresh = sym e i; meanings = λ q. sym (k q ∙ ap (λ x. meanings_after s.meanings x q) r) i }
+behind_is s p fresh found m e r k = λ i. record { fresh = sym e i; definitions = λ q. sym (k q ∙ ap (λ x. definitions_after s.definitions x q) r) i }
 
 -- the loop's step
-pub one_more : (text : List ℕ) (places : List Place) (ts us : List Token) (s : Before) (fresh : Bool) (m : Meanings) (at n : ℕ) (found : Reading) → at ≤ length text → AreLexed text places ts s (drop at text) → IsPieceOf s n fresh found (drop at text) → ((q : List ℕ) → m q ≡ meanings_after s.meanings found q) → us ≡ ts ++ token_as s.meanings found places at n → AreLexed text places us (before fresh m) (drop (at + n) text)
+pub one_more : (text : List ℕ) (places : List Place) (ts us : List Token) (s : Before) (fresh : Bool) (m : Definitions) (at n : ℕ) (found : PieceMeaning) → at ≤ length text → AreLexed text places ts s (drop at text) → IsPieceOf s n fresh found (drop at text) → ((q : List ℕ) → m q ≡ definitions_after s.definitions found q) → us ≡ ts ++ token_as s.definitions found places at n → AreLexed text places us (before fresh m) (drop (at + n) text)
 one_more text places ts us s fresh m at n found w a p k e =
     let rest = drop at text in
     let piece = take n rest in
@@ -175,7 +181,7 @@ one_more text places ts us s fresh m at n found w a p k e =
     record {
       pieces = a.pieces ++ piece ∷ [];
       cut = subst (IsCut at_start (a.pieces ++ piece ∷ []) text (before fresh m)) (drop-drop n at text) (subst (λ x. IsCut at_start (a.pieces ++ piece ∷ []) text x (drop n rest)) (behind_is s piece fresh found m p.next p.reads k) here);
-      tokens = e ∙ (λ i. a.tokens i ++ token_as s.meanings (p.reads i) places (d i) (sym l i)) ∙ sym (tokens_more places at_start 0 a.pieces text rest piece s a.cut);
+      tokens = e ∙ (λ i. a.tokens i ++ token_as s.definitions (p.reads i) places (d i) (sym l i)) ∙ sym (tokens_more places at_start 0 a.pieces text rest piece s a.cut);
     }
 
 -- the loop's exit at a fault

@@ -5,7 +5,8 @@ use Rattle.std.proofs.lemmas.Bool.Decides.{nat_tests}
 use Rattle.std.proofs.lemmas.Grind.{common_steps}
 use Rattle.cl_tree.specs.declared.pieces.Escape.{Escape}
 use Rattle.cl_tree.specs.declared.pieces.Escape.TheVariants.{NoEscape, TooBig, Value}
-use Rattle.cl_tree.specs.Literals.{is_printable, escape_at, by_escape, unescaped}
+use Rattle.cl_tree.specs.Letters.{is_printable}
+use Rattle.cl_tree.specs.Literals.{escape_at, by_escape, unescaped}
 
 skip_here : (k : ℕ) (done : List ℕ) (b : ℕ) (bs : List ℕ) → 0 < k → unescaped k done (b ∷ bs) ≡ unescaped (k - 1) done bs
 skip_here zero done b bs h = absurd (omega arith)

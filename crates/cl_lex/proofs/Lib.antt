@@ -5,3 +5,9 @@ pub mod Shapes
 pub mod Taken
 pub mod Cuts
 pub mod Words
+pub mod Total
+pub mod BroughtValues
+pub mod BroughtLines
+pub mod Brought
+pub mod Worked
+pub mod Order

@@ -11,7 +11,8 @@ use Rattle.cl_tree.specs.declared.pieces.Opening.{Opening}
 use Rattle.cl_tree.specs.declared.pieces.Opening.TheVariants.{Runs, Closes, Space, Punct, Other}
 use Rattle.cl_tree.specs.declared.pieces.Next.{Next}
 use Rattle.cl_tree.specs.declared.pieces.Next.TheVariants.{More, Shut, Broken}
-use Rattle.cl_tree.specs.Pieces.{is_bad, is_word, is_digit, first_opening, go, by_state, runs, step, by_next, closes, opening_in, opening_of, opening, shape, is_piece}
+use Rattle.cl_tree.specs.Letters.{is_bad, is_word, is_digit, is_newline, is_on_line, is_printable}
+use Rattle.cl_tree.specs.Pieces.{first_opening, go, by_state, runs, step, by_next, closes, opening_in, opening_of, opening, shape, is_piece}
 use Rattle.cl_tree.specs.Tokens.{must_close}
 use Rattle.cl_lex.specs.Scans.{span, closing}
 
@@ -125,7 +126,7 @@ module _ (f : Bool) (b c : ℕ) where
   no_line o = grind (arith, nat_tests)
 
   line_alone : opening_in f b c ≡ Runs Line → go Line b c ≡ None → opening_in f b 0 ≡ Runs Line
-  unfolding opening_in opening_of go is_digit
+  unfolding opening_in opening_of go is_digit is_newline
   line_alone o g = let h = no_line in grind (arith, nat_tests)
 
   no_directive : first_opening b ≡ Runs Directive → ⊥
@@ -135,6 +136,10 @@ module _ (f : Bool) (b c : ℕ) where
   directive_alone : opening_in f b c ≡ Runs Directive → opening_in f b 0 ≡ Runs Directive
   unfolding opening_in opening_of is_digit
   directive_alone o = let h = no_directive in grind (arith, nat_tests)
+
+  pub directive_line : opening_in f b c ≡ Runs Directive → is_newline b ≡ false
+  unfolding opening_in opening_of is_digit is_newline
+  directive_line o = let h = no_directive in grind (arith, nat_tests)
 
   pub runs_alone : (r : Run) → opening_in f b c ≡ Runs r → go r b c ≡ None → opening_in f b 0 ≡ Runs r
   runs_alone Letters o g = letters_alone o g
@@ -159,7 +164,7 @@ module _ (f : Bool) (b c : ℕ) where
   other_bad o = let h = first_other b in grind (arith, nat_tests)
 
   pub bad_other : is_bad b ≡ true → opening_in f b c ≡ Other
-  unfolding opening_in opening_of first_opening is_bad
+  unfolding opening_in opening_of first_opening is_bad is_on_line is_printable
   bad_other o = grind (arith, nat_tests)
 
   pub comment_star : opening_in f b c ≡ Closes Comment → c ≡ 42

@@ -1,18 +1,23 @@
 -- What `piece_len` finds is the piece that stands at the start of a text, or shows that none does.
-use Rattle.std.proofs.Common.{◌≡◌, ℕ, suc, zero, ◌+◌, ◌-◌, ◌<◌, ◌≤◌, Bool, true, false, ◌&&◌, cond, leb, List, [], ◌∷◌, Option, Some, None, length, get_or, take, drop, refl, sym, ap, ◌∙◌, subst, arith, length-take-le, ⊎_elim, inr}
+use Rattle.std.proofs.Common.{◌≡◌, ℕ, suc, zero, ◌+◌, ◌-◌, ◌<◌, ◌≤◌, Bool, true, false, ◌&&◌, cond, leb, List, [], ◌∷◌, Option, Some, None, length, get_or, take, drop, map, refl, sym, ap, ◌∙◌, subst, arith, length-take-le, ⊎_elim, inr}
 use Rattle.std.proofs.lemmas.List.{drop-take, length-drop}
 use Rattle.std.proofs.lemmas.Bool.{false≢true, ne_eqb}
 use Rattle.std.proofs.lemmas.Bool.Decides.{nat_tests}
-use Rattle.std.specs.Prelude.{◌⊎◌}
+use Rattle.std.specs.Prelude.{◌⊎◌, bytes_eq}
+use Rattle.std.proofs.lemmas.Slice.Eq.{bytes_eq-Decides}
 use Rattle.cl_tree.specs.declared.pieces.Run.{Run}
 use Rattle.cl_tree.specs.declared.pieces.Closed.{Closed}
 use Rattle.cl_tree.specs.declared.pieces.Closed.TheVariants.{Comment, Quoted, Letter}
 use Rattle.cl_tree.specs.declared.pieces.Opening.{Opening}
 use Rattle.cl_tree.specs.declared.pieces.Opening.TheVariants.{Runs, Closes, Space, Punct, Other}
 use Rattle.cl_tree.specs.declared.pieces.Rule.TheVariants.{E02, E03}
-use Rattle.cl_tree.specs.Pieces.{is_bad, go, by_state, runs, closes, opening_in, opening, opening_len, mark, has, shape, is_piece}
+use Rattle.cl_tree.specs.Letters.{is_bad}
+use Rattle.cl_tree.specs.Words.{Word, entry}
+use Rattle.cl_tree.specs.declared.token.Mark.{Mark}
+use Rattle.cl_tree.specs.declared.token.TheConstants.{MARKS}
+use Rattle.cl_tree.specs.Pieces.{go, by_state, runs, closes, opening_in, opening, opening_len, mark, has, shape, is_piece}
 use Rattle.cl_lex.specs.Scans.{span, closing, longest_mark}
-use Rattle.cl_tree.specs.Tokens.{IsTaken, IsStuck, IsUnclosed, strange, NoneBeyond, must_close}
+use Rattle.cl_tree.specs.Tokens.{IsTaken, IsStuck, IsUnclosed, IsNothing, strange, NoneBeyond, must_close}
 use Rattle.cl_lex.proofs.Shapes.{runs_span, runs_beyond, span_within, shuts, stays_open, opening_take, is_piece_at, runs_alone, space_alone, punct_alone, punct_good, other_bad, comment_star, bad_other}
 
 -- to be taken: n bytes that are a piece, and no longer front is
@@ -67,6 +72,10 @@ run_taken f r (b ∷ bs) n h o e =
     subst (λ k. IsTaken f (take k (b ∷ bs)) (b ∷ bs)) s
     (taken_of f (suc (span r b bs)) (b ∷ bs) (omega arith) (run_piece_step f r b bs (span r b bs) o refl) (run_beyond_step f r b bs o) (λ q. absurd (no_close _ _ o refl q)))
 
+pub run_within : (f : Bool) (r : Run) (text : List ℕ) → 0 < length text → opening f text ≡ Runs r → 1 + span r (get_or text 0 0) (drop 1 text) ≤ length text
+run_within f r [] h o = absurd (omega arith)
+run_within f r (b ∷ bs) h o = let w = span_within r b bs in omega arith
+
 -- what closes
 shape_close : (k : Closed) (xs : List ℕ) → shape (Closes k) xs ≡ closes k false (drop (opening_len k) xs)
 unfolding shape
@@ -103,9 +112,9 @@ close_taken f k text n l o e =
     let piece : is_piece f (take (opening_len k + s.j) text) ≡ true = close_piece f k text s.j (omega arith) (omega arith) o ∙ s.closed in
     (taken_of f n text (omega arith) (ap (λ m. is_piece f (take m text)) c ∙ piece) (λ m a b. close_piece_at f k text m (omega arith) b o ∙ s.longest (m - opening_len k) (omega arith) (omega arith)) (λ q. omega arith), omega arith, omega arith)
 
-pub close_stuck : (f : Bool) (k : Closed) (text : List ℕ) → opening_len k ≤ length text → opening f text ≡ Closes k → closing k (opening_len k) false (drop (opening_len k) text) ≡ None → IsUnclosed f text
+pub close_stuck : (f : Bool) (k : Closed) (text : List ℕ) → opening_len k ≤ length text → opening f text ≡ Closes k → closing k (opening_len k) false (drop (opening_len k) text) ≡ None → IsUnclosed f text k
 close_stuck f k text l o e = record {
-  opens = ap must_close o;
+  opens = o;
   none = λ m a b.
       let d : length (drop (opening_len k) text) ≡ length text - opening_len k = length-drop (opening_len k) text in
       close_piece_at f k text m a b o ∙ stays_open k (opening_len k) false (drop (opening_len k) text) e (m - opening_len k) (omega arith);
@@ -135,9 +144,28 @@ pub space_taken : (f : Bool) (text : List ℕ) → 0 < length text → opening f
 space_taken f text h o = taken_of f 1 text (omega arith) (piece_of_one f text Space h (space_alone f _ _ o) ∙ space_one text h) (λ m a b. piece_from_two f m text Space a b o ∙ space_shape m text b a) (λ q. absurd (no_close _ _ o refl q))
 
 -- punctuators: none is longer than 3
+-- a table has nothing under a word that is longer than its words
+abbrev are_short : {A : Type 0} → List (Word × A) → Bool
+are_short [] = true
+are_short (row ∷ rows) = leb (length row.0) 3 && are_short rows
+
+other_length : (a b : List ℕ) (t : Bool) → bytes_eq a b ≡ t → length a < length b → t ≡ false
+other_length a b true e h = let q : a ≡ b = (bytes_eq-Decides a b).0 e in let l : length a ≡ length b = ap length q in absurd (omega arith)
+other_length a b false e h = refl
+
+no_entry : {A : Type 0} (rows : List (Word × A)) (xs : List ℕ) → are_short rows ≡ true → 3 < length xs → entry rows xs ≡ None
+no_entry [] xs s h = refl
+no_entry (row ∷ rows) xs s h =
+    let short : length row.0 ≤ 3 = grind (arith, nat_tests) in
+    let rest : are_short rows ≡ true = grind (arith, nat_tests) in
+    rw (other_length row.0 xs (bytes_eq row.0 xs) refl (omega arith)) (no_entry rows xs rest h)
+
+abbrev rows : List (Word × Mark)
+rows = map (λ row. (row.0.now, row.1)) MARKS
+
 no_long_mark : (xs : List ℕ) → 3 < length xs → mark xs ≡ None
 unfolding mark
-no_long_mark xs h = grind (arith, nat_tests)
+no_long_mark xs h = no_entry rows xs refl h
 
 -- the first of 3, 2 and 1 that passes
 abbrev pick : ℕ → Bool → Bool → Bool → ℕ
@@ -192,8 +220,11 @@ strange_good : (text : List ℕ) → is_bad (get_or text 0 0) ≡ false → stra
 unfolding strange
 strange_good text e = rw e refl
 
+pub punct_none : (f : Bool) (text : List ℕ) → 0 < length text → opening f text ≡ Punct → longest_mark text ≡ 0 → IsNothing f text
+punct_none f text h o e = record { some = h; free = ap must_close o; none = λ m a b. punct_piece f text m a b o ∙ marks_beyond text m (omega arith) b }
+
 pub punct_stuck : (f : Bool) (text : List ℕ) → 0 < length text → opening f text ≡ Punct → longest_mark text ≡ 0 → IsStuck f text E03 0
-punct_stuck f text h o e = inr (record { some = h; free = ap must_close o; none = λ m a b. punct_piece f text m a b o ∙ marks_beyond text m (omega arith) b }, strange_good text (punct_good f _ _ o))
+punct_stuck f text h o e = inr (punct_none f text h o e, strange_good text (punct_good f _ _ o))
 
 -- no piece begins with a byte that is not allowed
 other_shape : (xs : List ℕ) → shape Other xs ≡ false
@@ -205,5 +236,8 @@ other_piece f text zero h w o = absurd (omega arith)
 other_piece f text (suc zero) h w o = piece_of_one f text Other (omega arith) (bad_other f _ _ (other_bad f _ _ o)) ∙ other_shape (take 1 text)
 other_piece f text (suc (suc m)) h w o = piece_from_two f (suc (suc m)) text Other (omega arith) w o ∙ other_shape (take (suc (suc m)) text)
 
+pub other_none : (f : Bool) (text : List ℕ) → 0 < length text → opening f text ≡ Other → IsNothing f text
+other_none f text h o = record { some = h; free = ap must_close o; none = λ m a b. other_piece f text m a b o }
+
 pub other_stuck : (f : Bool) (text : List ℕ) → 0 < length text → opening f text ≡ Other → IsStuck f text E02 0
-other_stuck f text h o = inr (record { some = h; free = ap must_close o; none = λ m a b. other_piece f text m a b o }, strange_bad text (other_bad f _ _ o))
+other_stuck f text h o = inr (other_none f text h o, strange_bad text (other_bad f _ _ o))

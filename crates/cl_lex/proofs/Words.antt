@@ -7,7 +7,8 @@ use Rattle.std.proofs.lemmas.Bool.{cond-false, ne_eqb, false≢true}
 use Rattle.std.proofs.lemmas.Bool.Decides.{nat_tests}
 use Rattle.cl_tree.specs.declared.pieces.Run.TheVariants.{Letters}
 use Rattle.cl_tree.specs.declared.pieces.Opening.TheVariants.{Runs}
-use Rattle.cl_tree.specs.Pieces.{is_letter, is_digit, is_word, first_opening, opening_of, opening_in, opening, go, by_state, runs, shape, is_piece}
+use Rattle.cl_tree.specs.Letters.{is_letter, is_digit, is_word}
+use Rattle.cl_tree.specs.Pieces.{first_opening, opening_of, opening_in, opening, go, by_state, runs, shape, is_piece}
 use Rattle.cl_tree.specs.Directives.{word, word_len}
 
 and_left : (x y : Bool) → (x && y) ≡ true → x ≡ true
@@ -35,7 +36,7 @@ front_step : (x : ℕ) (xs : List ℕ) (t : Bool) → is_word x ≡ t → list_a
 front_step x xs true e h = let s : 1 + prefix_len is_word xs ≡ suc (prefix_len is_word xs) = omega arith in rw (s, e) h
 front_step x xs false e h = refl
 
-front_words : (xs : List ℕ) → list_all is_word (take (prefix_len is_word xs) xs) ≡ true
+pub front_words : (xs : List ℕ) → list_all is_word (take (prefix_len is_word xs) xs) ≡ true
 front_words [] = refl
 front_words (x ∷ xs) = front_step x xs (is_word x) refl (front_words xs)
 
@@ -48,7 +49,7 @@ runs_step : (b : ℕ) (bs : List ℕ) (t : Bool) → is_word b ≡ t → by_stat
 runs_step b bs true e h k = rw e (k h)
 runs_step b bs false e h k = absurd (false≢true h)
 
-runs_words : (a : ℕ) (bs : List ℕ) → runs Letters a bs ≡ true → list_all is_word bs ≡ true
+pub runs_words : (a : ℕ) (bs : List ℕ) → runs Letters a bs ≡ true → list_all is_word bs ≡ true
 unfolding go
 runs_words a [] h = refl
 runs_words a (b ∷ bs) h = runs_step b bs (is_word b) refl h (λ r. runs_words b bs r)
@@ -57,15 +58,15 @@ first_letter : (b : ℕ) → first_opening b ≡ Runs Letters → is_letter b �
 unfolding first_opening
 first_letter b e = grind (arith, nat_tests)
 
-opening_letter : (f : Bool) (b c : ℕ) → opening_in f b c ≡ Runs Letters → is_letter b ≡ true
+pub opening_letter : (f : Bool) (b c : ℕ) → opening_in f b c ≡ Runs Letters → is_letter b ≡ true
 unfolding opening_in opening_of
 opening_letter f b c e = let h = first_letter b in grind (arith, nat_tests)
 
-letter_word : (b : ℕ) → is_letter b ≡ true → is_word b ≡ true
+pub letter_word : (b : ℕ) → is_letter b ≡ true → is_word b ≡ true
 unfolding is_word
 letter_word b e = rw e refl
 
-piece_is : (f : Bool) (p : List ℕ) → 0 < length p → is_piece f p ≡ shape (opening f p) p
+pub piece_is : (f : Bool) (p : List ℕ) → 0 < length p → is_piece f p ≡ shape (opening f p) p
 unfolding is_piece
 piece_is f p h = cond-false _ _ _ (ne_eqb (length p) 0 (λ z. absurd (omega arith)))
 

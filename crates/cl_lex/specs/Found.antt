@@ -1,7 +1,7 @@
 -- What the lexer finds at one place.
 use Rattle.std.specs.Prelude.{◌≡◌, ℕ, ◌<◌, ◌≤◌, Bool, List, None, length, take}
-use Rattle.cl_tree.specs.Tokens.{Before, Meanings, IsTaken, IsCut, IsFault, FailsAt, LexFails, at_start, flaw, fresh_after, reading, tokens_from}
-use Rattle.cl_tree.specs.declared.pieces.Reading.{Reading}
+use Rattle.cl_tree.specs.Tokens.{Before, Definitions, IsTaken, IsCut, IsFault, FailsAt, LexFails, at_start, flaw, fresh_after, piece_meaning, tokens_from}
+use Rattle.cl_tree.specs.declared.pieces.PieceMeaning.{PieceMeaning}
 use Rattle.cl_tree.specs.declared.pieces.Place.{Place}
 use Rattle.cl_tree.specs.declared.token.Token.{Token}
 use Rattle.cl_lex.specs.declared.pieces.Halt.{Halt}
@@ -9,8 +9,8 @@ use Rattle.cl_lex.specs.declared.pieces.Halt.TheVariants.{Memory, Fault}
 use Rattle.cl_lex.specs.declared.lex.LexStop.{LexStop}
 use Rattle.cl_lex.specs.declared.lex.LexStop.TheVariants.{Rule, NoMemory}
 
-abbrev pub before : Bool → Meanings → Before
-before fresh meanings = record { fresh = fresh; meanings = meanings }
+abbrev pub before : Bool → Definitions → Before
+before fresh definitions = record { fresh = fresh; definitions = definitions }
 
 -- These are the tokens of a text up to a rest of it, before strings are joined; `last` is known before the rest.
 pub record AreLexed (text : List ℕ) (places : List Place) (ts : List Token) (last : Before) (rest : List ℕ) : Type 0 where
@@ -19,10 +19,10 @@ pub record AreLexed (text : List ℕ) (places : List Place) (ts : List Token) (l
   pub tokens : ts ≡ tokens_from places at_start 0 pieces
 
 -- n bytes at the start of a text are a piece that breaks no rule, and it reads so
-pub record IsPieceOf (s : Before) (n : ℕ) (fresh : Bool) (found : Reading) (text : List ℕ) : Type 0 where
+pub record IsPieceOf (s : Before) (n : ℕ) (fresh : Bool) (found : PieceMeaning) (text : List ℕ) : Type 0 where
   pub taken : IsTaken s.fresh (take n text) text
   pub flawless : flaw s (take n text) ≡ None
-  pub reads : found ≡ reading s.fresh (take n text)
+  pub reads : found ≡ piece_meaning s.fresh (take n text)
   pub next : fresh ≡ fresh_after s.fresh (take n text)
   pub some : 0 < n
   pub within : n ≤ length text

@@ -1,2 +1,4 @@
 pub mod Scans
 pub mod Found
+pub mod Laws
+pub mod Worked

@@ -1,19 +1,20 @@
 //! What directive lines mean.
 
-ghost use Rattle.std.specs.Prelude.{◌≡◌, ◌+◌, ◌-◌, ◌^◌, ◌<◌, ◌≤◌, [], length, option_map, true, IfOk, IfSome};
+ghost use Rattle.std.specs.Prelude.{◌≡◌, ◌∷◌, ◌+◌, ◌-◌, ◌^◌, ◌<◌, ◌≤◌, [], length, option_map, true, codes, IfOk, IfSome};
 ghost use Rattle.std.specs.List.{list_all, position, prefix_len, suffix_len};
-ghost use Rattle.cl_tree.specs.Pieces.{is_bad, is_word};
-ghost use Rattle.cl_tree.specs.Directives.{part_after, is_code, is_open, shown, blanked, is_blank, behind_blanks, trimmed, word_len, word, behind_word, has_word, is_name, begins};
-ghost use Rattle.cl_tree.specs.Directives.{allowed, is_header, inclusion, defined_as, definition, cle_named, cle, pragma, behind_hash, directive_words, directive_line, by_blanked, behind_def, begins_def, is_def, def_line, directive};
+ghost use Rattle.cl_tree.specs.Letters.{is_bad, is_blank, is_word};
+ghost use Rattle.cl_tree.specs.Directives.{part_after, is_code, is_open, shown, blanked, behind_blanks, trimmed, word_len, word, behind_word, has_word, begins_with, behind_words};
+ghost use Rattle.cl_tree.specs.Directives.{allowed, header, defined_as, can_be_defined, name_and_literal, cle_if, cle, other_pragma, form, behind_hash, by_blanked, is_def, def_line, directive};
 ghost use Rattle.cl_tree.specs.declared.pieces.Part.TheVariants.{Code};
 
 use crate::literals::{from, literal};
-use crate::scan::{byte_at, is_bad, is_letter, is_word};
+use crate::scan::byte_at;
 use cl_base::name::{Name, NoMemory};
 use cl_tree::bytes::Bytes;
-use cl_tree::pieces::{Part, Reading, Rule, Spelling};
-use cl_tree::token::{Lexeme, Pragma};
-use cl_tree::words::is_keyword;
+use cl_tree::letters::{is_bad, is_blank, is_letter, is_name, is_word};
+use cl_tree::pieces::{LiteralValue, Part, PieceMeaning, Rule};
+use cl_tree::token::{Lexeme, Pragma, is_cle_word};
+use cl_tree::words::{is_keyword, same};
 use std::alloc::{AllocError, Global};
 
 /// A name of these bytes.
@@ -98,13 +99,6 @@ fn blanked(alloc: Global, text: &[u8]) -> Result<Option<Vec<u8>>, AllocError>
     }
 }
 
-#[tactic(auto, unfolding(cl_tree::specs::Directives::is_blank))]
-fn is_blank(b: u8) -> bool
-    ensures { result ≡ is_blank b }
-{
-    b == b' ' || b == b'\t' || b == b'\r'
-}
-
 fn blank_len(text: &[u8]) -> usize
     ensures value { result ≡ prefix_len is_blank text.now }
     ensures within { result ≤ length text.now }
@@ -179,16 +173,8 @@ fn has_word(text: &[u8]) -> bool
     word_len(text) > 0
 }
 
-#[tactic(auto, unfolding(cl_tree::specs::Directives::is_name))]
-fn is_name(text: &[u8]) -> bool
-    ensures { result ≡ is_name text.now }
-{
-    has_word(text) && word_len(text) == text.len()
-}
-
-#[tactic(auto, unfolding(cl_tree::specs::Directives::begins))]
 fn begins(text: &[u8], name: &str) -> bool
-    ensures { result ≡ begins text.now name.now }
+    ensures { result ≡ begins_with (name.now ∷ []) text.now }
 {
     word(text) == name.as_bytes()
 }
@@ -202,32 +188,23 @@ pub fn first_bad(text: &[u8]) -> Option<usize>
 
 /// What a text means, unless one of its bytes is not allowed.
 #[tactic(auto, unfolding(cl_tree::specs::Directives::allowed))]
-pub fn allowed(text: &[u8], found: Reading) -> Reading
+pub fn allowed(text: &[u8], found: PieceMeaning) -> PieceMeaning
     ensures { result ≡ allowed text.now found }
 {
     match first_bad(text) {
         None => found,
-        Some(i) => Reading::Bad(Rule::E02, i),
+        Some(i) => PieceMeaning::Bad(Rule::E02, i),
     }
 }
 
-#[tactic(auto, unfolding(cl_tree::specs::Directives::is_header))]
-fn is_header(text: &[u8]) -> bool
-    ensures { result ≡ is_header text.now }
+#[tactic(auto, unfolding(cl_tree::specs::Directives::header))]
+fn header(text: &[u8]) -> PieceMeaning
+    ensures { result ≡ header text.now }
 {
-    text == "<stdio.h>".as_bytes()
-        || text == "<stdint.h>".as_bytes()
-        || text == "<stdlib.h>".as_bytes()
-}
-
-#[tactic(auto, unfolding(cl_tree::specs::Directives::inclusion))]
-fn inclusion(text: &[u8]) -> Reading
-    ensures { result ≡ inclusion text.now }
-{
-    if is_header(text) {
-        Reading::Blank
+    if same(b"<stdio.h>", text) || same(b"<stdint.h>", text) || same(b"<stdlib.h>", text) {
+        PieceMeaning::Blank
     } else {
-        Reading::Bad(Rule::E05, 0)
+        PieceMeaning::Bad(Rule::E05, 0)
     }
 }
 
@@ -235,74 +212,106 @@ fn defined_as(
     alloc: Global,
     name: &[u8],
     at: usize,
-    spelling: Spelling,
-) -> Result<Reading, NoMemory>
+    value: LiteralValue,
+) -> Result<PieceMeaning, NoMemory>
     requires { list_all is_word name.now ≡ true }
-    ensures { IfOk result (λ r. r ≡ defined_as name.now at spelling) }
+    ensures { IfOk result (λ r. r ≡ defined_as name.now at value) }
 {
-    let literal = match spelling {
-        Spelling::Wrong => return Ok(Reading::Bad(Rule::E05, 0)),
-        Spelling::Unfit => None,
-        Spelling::Holds(literal) => Some(literal),
+    let literal = match value {
+        LiteralValue::Wrong => return Ok(PieceMeaning::Bad(Rule::E05, 0)),
+        LiteralValue::Unfit => None,
+        LiteralValue::Holds(literal) => Some(literal),
     };
     let name = name_of(alloc, name)?;
-    Ok(Reading::Defines { name, literal, at })
+    Ok(PieceMeaning::Defines { name, literal, at })
+}
+
+#[tactic(auto, unfolding(cl_tree::specs::Directives::can_be_defined))]
+fn can_be_defined(text: &[u8]) -> bool
+    ensures { result ≡ can_be_defined text.now }
+{
+    has_word(text) && !is_keyword(word(text)) && is_blank(byte_at(text, word_len(text)))
 }
 
 /// What `#define` defines, in a line of n bytes.
-#[tactic(auto, unfolding(cl_tree::specs::Directives::definition))]
-fn definition(alloc: Global, n: usize, text: &[u8]) -> Result<Reading, NoMemory>
+#[tactic(auto, unfolding(cl_tree::specs::Directives::name_and_literal))]
+fn name_and_literal(alloc: Global, n: usize, text: &[u8]) -> Result<PieceMeaning, NoMemory>
     requires small { n < 2 ^ 62 }
     requires within { length text.now ≤ n }
-    ensures { IfOk result (λ r. r ≡ definition n text.now) }
+    ensures { IfOk result (λ r. r ≡ name_and_literal n text.now) }
 {
-    if has_word(text) && !is_keyword(word(text)) && is_blank(byte_at(text, word_len(text))) {
+    if can_be_defined(text) {
         let rest = behind_word(text);
         defined_as(alloc, word(text), n - rest.len(), literal(rest))
     } else {
-        Ok(Reading::Bad(Rule::E05, 0))
+        Ok(PieceMeaning::Bad(Rule::E05, 0))
     }
 }
 
-#[tactic(auto, unfolding(cl_tree::specs::Directives::cle_named))]
-fn cle_named(good: bool, pragma: Pragma) -> Reading
-    ensures { result ≡ cle_named good pragma }
+#[tactic(auto, unfolding(cl_tree::specs::Directives::cle_if))]
+fn cle_if(good: bool, pragma: Pragma) -> PieceMeaning
+    ensures { result ≡ cle_if good pragma }
 {
     if good {
-        Reading::Is(Lexeme::Cle(pragma))
+        PieceMeaning::Is(Lexeme::Cle(pragma))
     } else {
-        Reading::Bad(Rule::E05, 0)
+        PieceMeaning::Bad(Rule::E05, 0)
     }
 }
 
-/// What `#pragma cle` means but for `def`.
+/// A name of the word that a text begins with.
+fn word_name(alloc: Global, text: &[u8]) -> Result<Name, NoMemory>
+    ensures { IfOk result (λ n. n ≡ word text.now) }
+{
+    name_of(alloc, word(text))
+}
+
+/// What `#pragma cle` means but for `def`, by what stands behind `cle`.
 #[tactic(auto, unfolding(cl_tree::specs::Directives::cle))]
-fn cle(alloc: Global, text: &[u8]) -> Result<Reading, NoMemory>
+fn cle(alloc: Global, text: &[u8]) -> Result<PieceMeaning, NoMemory>
     ensures { IfOk result (λ r. r ≡ cle text.now) }
 {
     let rest = behind_word(text);
     if begins(text, "begin") {
-        let name = name_of(alloc, word(rest))?;
-        Ok(cle_named(is_name(rest), Pragma::Begin(name)))
+        Ok(cle_if(is_name(rest), Pragma::Begin(word_name(alloc, rest)?)))
     } else if begins(text, "end") {
-        let name = name_of(alloc, word(rest))?;
-        Ok(cle_named(is_name(rest), Pragma::End(name)))
+        Ok(cle_if(is_name(rest), Pragma::End(word_name(alloc, rest)?)))
     } else {
-        let name = name_of(alloc, word(text))?;
-        Ok(cle_named(is_name(text) && !begins(text, "def"), Pragma::Next(name)))
+        let good = is_name(text) && !is_cle_word(word(text));
+        Ok(cle_if(good, Pragma::Next(word_name(alloc, text)?)))
     }
 }
 
-#[tactic(auto, unfolding(cl_tree::specs::Directives::pragma))]
-fn pragma(alloc: Global, line: &[u8], text: &[u8]) -> Result<Reading, NoMemory>
-    ensures { IfOk result (λ r. r ≡ pragma line.now text.now) }
+/// `#pragma` with another word than `cle`.
+#[tactic(auto, unfolding(cl_tree::specs::Directives::other_pragma))]
+fn other_pragma(line: &[u8], text: &[u8]) -> PieceMeaning
+    ensures { result ≡ other_pragma line.now text.now }
 {
-    if !has_word(text) {
-        Ok(Reading::Bad(Rule::E05, 0))
-    } else if begins(text, "cle") {
-        cle(alloc, behind_word(text))
+    if has_word(text) {
+        allowed(line, PieceMeaning::Blank)
     } else {
-        Ok(allowed(line, Reading::Blank))
+        PieceMeaning::Bad(Rule::E05, 0)
+    }
+}
+
+/// What a directive means, by what stands behind its number sign; its comments are spaces.
+#[tactic(auto, unfolding(cl_tree::specs::Directives::form))]
+fn form(alloc: Global, line: &[u8], text: &[u8]) -> Result<PieceMeaning, NoMemory>
+    requires small { length line.now < 2 ^ 62 }
+    requires within { length text.now ≤ length line.now }
+    ensures { IfOk result (λ r. r ≡ form line.now text.now) }
+{
+    let second = behind_word(text);
+    if begins(text, "include") {
+        Ok(header(second))
+    } else if begins(text, "define") {
+        name_and_literal(alloc, line.len(), second)
+    } else if begins(text, "pragma") && begins(second, "cle") {
+        cle(alloc, behind_word(second))
+    } else if begins(text, "pragma") {
+        Ok(other_pragma(line, second))
+    } else {
+        Ok(PieceMeaning::Bad(Rule::E05, 0))
     }
 }
 
@@ -315,88 +324,56 @@ fn behind_hash(line: &[u8]) -> &[u8]
     behind_blanks(from(line, 1))
 }
 
-#[tactic(auto, unfolding(cl_tree::specs::Directives::directive_words))]
-fn directive_words(alloc: Global, line: &[u8], text: &[u8]) -> Result<Reading, NoMemory>
-    requires small { length line.now < 2 ^ 62 }
-    requires within { length text.now ≤ length line.now }
-    ensures { IfOk result (λ r. r ≡ directive_words line.now text.now) }
-{
-    let rest = behind_word(text);
-    if begins(text, "include") {
-        Ok(inclusion(rest))
-    } else if begins(text, "define") {
-        definition(alloc, line.len(), rest)
-    } else if begins(text, "pragma") {
-        pragma(alloc, line, rest)
-    } else {
-        Ok(Reading::Bad(Rule::E05, 0))
-    }
-}
-
-/// What a line means whose comments are spaces.
-#[tactic(auto, unfolding(cl_tree::specs::Directives::directive_line))]
-fn directive_line(alloc: Global, line: &[u8]) -> Result<Reading, NoMemory>
-    requires { length line.now < 2 ^ 62 }
-    ensures { IfOk result (λ r. r ≡ directive_line line.now) }
-{
-    directive_words(alloc, line, behind_hash(line))
-}
-
 /// What a line means that defines no label.
-fn plain_line(alloc: Global, line: &[u8]) -> Result<Reading, NoMemory>
+fn plain_line(alloc: Global, line: &[u8]) -> Result<PieceMeaning, NoMemory>
     requires { length line.now < 2 ^ 62 }
     ensures { IfOk result (λ r. r ≡ by_blanked (blanked Code [] line.now)) }
 {
     match blanked(alloc, line)? {
-        None => Ok(Reading::Bad(Rule::E05, 0)),
-        Some(line) => directive_line(alloc, trimmed(line.as_slice())),
+        None => Ok(PieceMeaning::Bad(Rule::E05, 0)),
+        Some(line) => {
+            let line = trimmed(line.as_slice());
+            form(alloc, line, behind_hash(line))
+        }
     }
 }
 
-#[tactic(auto, unfolding(cl_tree::specs::Directives::behind_def))]
-fn behind_def(line: &[u8]) -> &[u8]
-    ensures { result.now ≡ behind_def line.now }
-{
-    behind_word(behind_word(behind_word(behind_hash(line))))
-}
-
-#[tactic(auto, unfolding(cl_tree::specs::Directives::begins_def))]
-fn begins_def(text: &[u8]) -> bool
-    ensures { result ≡ begins_def text.now }
+#[tactic(auto, unfolding(cl_tree::specs::Directives::is_def))]
+fn is_def(text: &[u8]) -> bool
+    ensures { result ≡ is_def text.now }
 {
     let second = behind_word(text);
-    begins(text, "pragma") && begins(second, "cle") && begins(behind_word(second), "def")
-}
-
-#[tactic(auto, unfolding(cl_tree::specs::Directives::is_def))]
-fn is_def(line: &[u8]) -> bool
-    ensures { result ≡ is_def line.now }
-{
-    let rest = behind_def(line);
-    begins_def(behind_hash(line)) && has_word(rest) && behind_word(rest).len() > 0
+    let third = behind_word(second);
+    let name = behind_word(third);
+    begins(text, "pragma")
+        && begins(second, "cle")
+        && begins(third, "def")
+        && has_word(name)
+        && behind_word(name).len() > 0
 }
 
 /// What a line means that defines a label.
 #[tactic(auto, unfolding(cl_tree::specs::Directives::def_line))]
-fn def_line(alloc: Global, line: &[u8]) -> Result<Reading, NoMemory>
-    ensures { IfOk result (λ r. r ≡ def_line line.now) }
+fn def_line(alloc: Global, line: &[u8], text: &[u8]) -> Result<PieceMeaning, NoMemory>
+    ensures { IfOk result (λ r. r ≡ def_line line.now text.now) }
 {
-    let rest = behind_def(line);
-    let name = name_of(alloc, word(rest))?;
+    let rest = behind_word(behind_word(behind_word(text)));
+    let name = word_name(alloc, rest)?;
     let text = Vec::from_slice(alloc, behind_word(rest))?;
     let pragma = Pragma::Def(name, Bytes::of(text));
-    Ok(allowed(line, Reading::Is(Lexeme::Cle(pragma))))
+    Ok(allowed(line, PieceMeaning::Is(Lexeme::Cle(pragma))))
 }
 
 /// What a directive line means.
 #[tactic(auto, unfolding(cl_tree::specs::Directives::directive))]
-pub fn directive(alloc: Global, line: &[u8]) -> Result<Reading, NoMemory>
+pub fn directive(alloc: Global, line: &[u8]) -> Result<PieceMeaning, NoMemory>
     requires { length line.now < 2 ^ 62 }
     ensures { IfOk result (λ r. r ≡ directive line.now) }
 {
     let short = trimmed(line);
-    if is_def(short) {
-        def_line(alloc, short)
+    let text = behind_hash(short);
+    if is_def(text) {
+        def_line(alloc, short, text)
     } else {
         plain_line(alloc, line)
     }

@@ -5,23 +5,25 @@ ghost use Rattle.std.specs.HashMap.{get};
 ghost use Rattle.std.specs.Cmp.Lexicographic.{pointwise};
 ghost use Rattle.std.specs.Map.{update};
 ghost use Rattle.std.specs.Str.{bytes_eq};
-ghost use Rattle.cl_tree.specs.Pieces.{opening};
-ghost use Rattle.cl_tree.specs.Tokens.{Before, IsTaken, IsStuck, IsLexed, FailsAt, AreTokens, LexFails, HasOneAnswer, flaw, flaw_as, definition_flaw, meant, replaced, token_as, meanings_after, number_of, place_at, unfinished, to_line_end};
+ghost use Rattle.cl_tree.specs.Tokens.{Before, IsTaken, IsStuck, IsLexed, FailsAt, AreTokens, LexFails, HasAnswer, HasOneAnswer, flaw, flaw_as, definition_flaw, meant, replaced, token_as, definitions_after, number_of, place_at, unfinished, to_line_end};
 ghost use Rattle.std.specs.List.{prefix_len};
-ghost use Rattle.std.specs.Prelude.{not, ◌==◌};
-ghost use Rattle.cl_tree.specs.declared.pieces.Opening.TheVariants.{Closes};
+ghost use Rattle.std.specs.Prelude.{not};
+ghost use Rattle.cl_tree.specs.Letters.{is_newline};
+ghost use Rattle.cl_lex.specs.Laws.{BringsOnly, AreInOrder};
 ghost use Rattle.cl_lex.specs.Found.{before, IsPieceOf, IsHalt, AreLexed, IsFailure, IsFailureOf, IsStop};
 ghost use Rattle.cl_tree.specs.declared.token.Token.{Token};
 ghost use Rattle.cl_lex.specs.declared.lex.LexStop.TheVariants as stop;
 
 use crate::directives::first_bad;
+use crate::meaning::{fresh_after, piece_meaning};
 use crate::passes::join_strings;
 use crate::pieces::{Halt, Piece};
-use crate::reading::{fresh_after, reading};
 use crate::scan::{closing, mark_len, opening, opening_len, run_len};
 use crate::text::unjoin;
+use cl_base::limits::SOURCE_BYTES;
 use cl_base::name::Name;
-use cl_tree::pieces::{Closed, Literal, Opening, Place, Reading, Rule};
+use cl_tree::letters::is_newline;
+use cl_tree::pieces::{Closed, Literal, Opening, PieceMeaning, Place, Rule};
 use cl_tree::token::{Lexeme, Token};
 use std::alloc::{AllocError, Global};
 use std::collections::HashMap;
@@ -47,10 +49,10 @@ impl From<AllocError> for LexStop {
 
 /// How many bytes stand before the next newline.
 fn line_len(text: &[u8]) -> usize
-    ensures value { result ≡ prefix_len (λ b. not (b == 10)) text.now }
+    ensures value { result ≡ prefix_len (λ b. not (is_newline b)) text.now }
     ensures within { result ≤ length text.now }
 {
-    text.iter().take_while(|b| **b != b'\n').count()
+    text.iter().take_while(|b| !is_newline(**b)).count()
 }
 
 #[tactic(auto, unfolding(cl_tree::specs::Tokens::to_line_end))]
@@ -62,7 +64,7 @@ fn to_line_end(text: &[u8]) -> &[u8]
 
 /// Why a piece that has to be closed is not taken, and at which byte.
 fn unfinished(kind: Closed, text: &[u8]) -> (Rule, usize)
-    ensures { result ≡ unfinished (Closes kind) text.now }
+    ensures { result ≡ unfinished kind text.now }
 {
     match kind {
         Closed::Comment => (Rule::E04, 0),
@@ -109,7 +111,7 @@ fn definition_flaw(
     }
 }
 
-fn meaning(defined: &HashMap<Name, Literal>, name: &Name) -> Option<Literal>
+fn literal_of(defined: &HashMap<Name, Literal>, name: &Name) -> Option<Literal>
     ensures { result ≡ get (pointwise nat_eq) defined.now name.now }
 {
     match defined.get(name) {
@@ -119,14 +121,14 @@ fn meaning(defined: &HashMap<Name, Literal>, name: &Name) -> Option<Literal>
 }
 
 /// The rule that a piece breaks, and at which byte of it.
-fn flaw_of(defined: &HashMap<Name, Literal>, found: &Reading) -> Option<(Rule, usize)>
+fn flaw_of(defined: &HashMap<Name, Literal>, found: &PieceMeaning) -> Option<(Rule, usize)>
     ensures { result ≡ flaw_as (λ q. get (pointwise nat_eq) defined.now q) found.now }
 {
     match found {
-        Reading::Blank | Reading::Is(_) => None,
-        Reading::Bad(rule, i) => Some((*rule, *i)),
-        Reading::Defines { name, literal, at } => definition_flaw(
-            meaning(defined, name),
+        PieceMeaning::Blank | PieceMeaning::Is(_) => None,
+        PieceMeaning::Bad(rule, i) => Some((*rule, *i)),
+        PieceMeaning::Defines { name, literal, at } => definition_flaw(
+            literal_of(defined, name),
             *literal,
             *at,
         ),
@@ -151,7 +153,7 @@ fn piece(
         Err((rule, i)) => return Err(Halt::Fault(rule, i)),
     };
     let front = &text[..len];
-    let found = reading(alloc, fresh, front)?;
+    let found = piece_meaning(alloc, fresh, front)?;
     if let Some((rule, i)) = flaw_of(defined, &found) {
         return Err(Halt::Fault(rule, i));
     }
@@ -194,7 +196,7 @@ fn replaced(defined: &HashMap<Name, Literal>, what: Lexeme) -> Lexeme
 {
     match what {
         Lexeme::Word(name) => {
-            let found = meaning(defined, &name);
+            let found = literal_of(defined, &name);
             meant(found, name)
         }
         other => other,
@@ -219,15 +221,15 @@ fn add(
     places: &[Place],
     at: usize,
     len: usize,
-    found: Reading,
+    found: PieceMeaning,
 ) -> Result<(), AllocError>
     requires some { 0 < len }
     requires within { at + len ≤ length places.now }
     ensures tokens { OnOk result (out.new.items ≡ out.old.items ++ token_as (λ q. get (pointwise nat_eq) defined.old q) found places.now at len) }
-    ensures meanings { OnOk result ((q : List ℕ) → get (pointwise nat_eq) defined.new q ≡ meanings_after (λ n. get (pointwise nat_eq) defined.old n) found q) }
+    ensures definitions { OnOk result ((q : List ℕ) → get (pointwise nat_eq) defined.new q ≡ definitions_after (λ n. get (pointwise nat_eq) defined.old n) found q) }
 {
     match found {
-        Reading::Is(what) => {
+        PieceMeaning::Is(what) => {
             let first = places[at];
             let last = places[at + len - 1];
             out.push(Token {
@@ -238,7 +240,7 @@ fn add(
             })?;
             Ok(())
         }
-        Reading::Defines {
+        PieceMeaning::Defines {
             name,
             literal,
             at: _,
@@ -246,7 +248,7 @@ fn add(
             Some(literal) => define(defined, name, literal),
             None => Ok(()),
         },
-        Reading::Blank | Reading::Bad(_, _) => Ok(()),
+        PieceMeaning::Blank | PieceMeaning::Bad(_, _) => Ok(()),
     }
 }
 
@@ -326,6 +328,20 @@ fn lex_whole(alloc: Global, text: &[u8], places: &[Place]) -> Result<Vec<Token>,
     lex_joined(alloc, text, places)
 }
 
+// The limit that the contract below writes out.
+const _: () = prove!(SOURCE_BYTES == 1_048_576);
+
+fn lex_source(alloc: Global, bytes: &[u8]) -> Result<Vec<Token>, LexStop>
+    requires { length bytes.now ≤ 1048576 }
+    ensures found { IfOk result (λ v. AreTokens bytes.now v.items) }
+    ensures fails { IfErr result (λ e. IsFailureOf bytes.now e) }
+    ensures all_found { (ts : List Token) → AreTokens bytes.now ts → MatchResult result (λ v. v.items ≡ ts) (λ e. e ≡ stop.NoMemory) }
+    ensures all_fails { (rule line : ℕ) → LexFails bytes.now rule line → MatchResult result (λ v. ⊥) (λ e. IsStop rule line e) }
+{
+    let text = unjoin(alloc, bytes)?;
+    lex_whole(alloc, text.bytes.as_slice(), text.places.as_slice())
+}
+
 /// The tokens of a source, or the lexical rule that its first failing place breaks, and the line of that place.
 pub fn lex(alloc: Global, bytes: &[u8]) -> Result<Vec<Token>, LexStop>
     requires { length bytes.now ≤ 1048576 }
@@ -335,12 +351,23 @@ pub fn lex(alloc: Global, bytes: &[u8]) -> Result<Vec<Token>, LexStop>
     // What is so is answered, unless memory runs out.
     ensures all_found { (ts : List Token) → AreTokens bytes.now ts → MatchResult result (λ v. v.items ≡ ts) (λ e. e ≡ stop.NoMemory) }
     ensures all_fails { (rule line : ℕ) → LexFails bytes.now rule line → MatchResult result (λ v. ⊥) (λ e. IsStop rule line e) }
+    // The tokens stand as the source has them.
+    ensures in_order { IfOk result (λ v. AreInOrder bytes.now v.items) }
 {
-    let text = unjoin(alloc, bytes)?;
-    lex_whole(alloc, text.bytes.as_slice(), text.places.as_slice())
+    lex_source(alloc, bytes)
 }
 
 /// A law of the definitions: a source has at most one list of tokens, at most one failure, and not both.
 pub fn one_answer()
     ensures { (source : List ℕ) → HasOneAnswer source }
+{}
+
+/// A law of the definitions: a source has a list of tokens or a failure.
+pub fn an_answer()
+    ensures { (source : List ℕ) → HasAnswer source }
+{}
+
+/// A law of the definitions: what the tokens of a source are made of is what the grammar's trees may hold.
+pub fn brings_only()
+    ensures { (source : List ℕ) → BringsOnly source }
 {}

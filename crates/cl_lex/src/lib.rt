@@ -2,12 +2,11 @@
 #![tactic(auto)]
 
 pub mod directives;
+pub mod examples;
 pub mod lex;
 pub mod literals;
+pub mod meaning;
 pub mod passes;
 pub mod pieces;
-pub mod reading;
 pub mod scan;
-#[cfg(test)]
-mod tests;
 pub mod text;

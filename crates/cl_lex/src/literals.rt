@@ -1,25 +1,26 @@
 //! What literals mean.
 
-ghost use Rattle.std.specs.Prelude.{◌≡◌, ◌+◌, ◌-◌, ◌^◌, ◌<◌, ◌≤◌, [], length, drop, slice_index, option_map, true, IfOk};
+ghost use Rattle.std.specs.Prelude.{◌≡◌, ◌==◌, find, ◌+◌, ◌-◌, ◌^◌, ◌<◌, ◌≤◌, [], length, drop, slice_index, option_map, true, IfOk};
 ghost use Rattle.std.specs.List.{list_all, prefix_len};
 ghost use Rattle.cl_tree.specs.Literals.{digit_of, is_digit_in, number_from, fitting, are_digits, is_u, is_body, has_u, without_u, width_of, is_hex, base_of, digits_of, kind_of, valued, numeral, integer_split, integer};
 ghost use Rattle.cl_tree.specs.Literals.{behind_digits, is_float_suffix, ends_float, behind_sign, ends_exponent, is_exponent, ends_fraction, is_floating_from, is_floating};
-ghost use Rattle.cl_tree.specs.Literals.{is_printable, by_digits, byte_or_big, simple_escape, escape_at, unescaped, escaped_letter, letter_inside, inside, letter, literal};
-ghost use Rattle.cl_tree.specs.Pieces.{is_digit};
+ghost use Rattle.cl_tree.specs.Literals.{by_digits, byte_or_big, letter_escape, simple_escape, escape_at, unescaped, escaped_letter, letter_inside, inside, letter, literal};
+ghost use Rattle.cl_tree.specs.Letters.{is_digit};
 
-use crate::scan::{byte_at, is_digit};
+use crate::scan::byte_at;
 use cl_tree::kinds::IntKind;
-use cl_tree::pieces::{Escape, Literal, Spelling, Width};
+use cl_tree::letters::{is_digit, is_printable};
+use cl_tree::pieces::{ESCAPES, Escape, Literal, LiteralValue, Width};
 use std::alloc::{AllocError, Global};
 
-#[tactic(auto, unfolding(cl_tree::specs::Literals::digit_of))]
+#[tactic(auto, unfolding(cl_tree::specs::Literals::digit_of, cl_tree::specs::Letters::is_digit))]
 fn digit_of(b: u8) -> u8
     ensures { result ≡ digit_of b }
 {
     match b {
         b'0'..=b'9' => b - b'0',
-        b'a'..=b'f' => b - 87,
-        b'A'..=b'F' => b - 55,
+        b'a'..=b'f' => b - b'a' + 10,
+        b'A'..=b'F' => b - b'A' + 10,
         _ => 99,
     }
 }
@@ -221,20 +222,20 @@ fn kind_of(decimal: bool, unsigned: bool, width: Width, value: u64) -> Option<In
     }
 }
 
-fn valued(decimal: bool, unsigned: bool, width: Width, value: Option<u64>) -> Spelling
+fn valued(decimal: bool, unsigned: bool, width: Width, value: Option<u64>) -> LiteralValue
     ensures { result ≡ valued decimal unsigned width value }
 {
     let Some(value) = value else {
-        return Spelling::Unfit;
+        return LiteralValue::Unfit;
     };
     match kind_of(decimal, unsigned, width, value) {
-        None => Spelling::Unfit,
-        Some(kind) => Spelling::Holds(Literal::Number { value, kind }),
+        None => LiteralValue::Unfit,
+        Some(kind) => LiteralValue::Holds(Literal::Number { value, kind }),
     }
 }
 
 #[tactic(auto, unfolding(cl_tree::specs::Literals::numeral))]
-fn numeral(unsigned: bool, width: Width, body: &[u8]) -> Spelling
+fn numeral(unsigned: bool, width: Width, body: &[u8]) -> LiteralValue
     ensures { result ≡ numeral unsigned width body.now }
 {
     let base = base_of(body);
@@ -242,16 +243,16 @@ fn numeral(unsigned: bool, width: Width, body: &[u8]) -> Spelling
     if are_digits(base, digits) {
         valued(base == 10, unsigned, width, number(base, digits))
     } else {
-        Spelling::Wrong
+        LiteralValue::Wrong
     }
 }
 
 #[tactic(auto, unfolding(cl_tree::specs::Literals::integer_split))]
-fn integer_split(body: &[u8], suffix: &[u8]) -> Spelling
+fn integer_split(body: &[u8], suffix: &[u8]) -> LiteralValue
     ensures { result ≡ integer_split body.now suffix.now }
 {
     match width_of(without_u(suffix)) {
-        None => Spelling::Wrong,
+        None => LiteralValue::Wrong,
         Some(width) => numeral(has_u(suffix), width, body),
     }
 }
@@ -265,7 +266,7 @@ fn body_len(text: &[u8]) -> usize
 
 /// An integer literal.
 #[tactic(auto, unfolding(cl_tree::specs::Literals::integer))]
-pub fn integer(text: &[u8]) -> Spelling
+pub fn integer(text: &[u8]) -> LiteralValue
     ensures { result ≡ integer text.now }
 {
     let n = body_len(text);
@@ -366,13 +367,6 @@ pub fn is_floating(text: &[u8]) -> bool
     is_floating_from(text, behind_digits(text))
 }
 
-#[tactic(auto, unfolding(cl_tree::specs::Literals::is_printable))]
-fn is_printable(b: u8) -> bool
-    ensures { result ≡ is_printable b }
-{
-    (b' '..=b'~').contains(&b)
-}
-
 fn byte_or_big(n: usize, value: Option<u64>) -> Escape
     ensures { result ≡ byte_or_big n value }
 {
@@ -401,21 +395,23 @@ fn by_digits(base: u8, before: usize, text: &[u8]) -> Escape
     byte_or_big(before + n, number(base, &text[..n]))
 }
 
-#[tactic(auto, unfolding(cl_tree::specs::Literals::simple_escape))]
-fn simple_escape(b: u8) -> Escape
-    ensures { result ≡ simple_escape b }
+fn escape_in(mut table: &[(u8, u8)], letter: u8) -> Escape
+    ensures { result ≡ letter_escape (find (λ row. row.0 == letter) table.entry.now) }
 {
-    match b {
-        b'n' => Escape::Value(b'\n', 1),
-        b't' => Escape::Value(b'\t', 1),
-        b'r' => Escape::Value(b'\r', 1),
-        b'a' => Escape::Value(7, 1),
-        b'b' => Escape::Value(8, 1),
-        b'f' => Escape::Value(12, 1),
-        b'v' => Escape::Value(11, 1),
-        b'\\' | b'\'' | b'"' | b'?' => Escape::Value(b, 1),
-        _ => Escape::NoEscape,
+    while let [first, rest @ ..] = table {
+        if first.0 == letter {
+            return Escape::Value(first.1, 1);
+        }
+        table = rest;
     }
+    Escape::NoEscape
+}
+
+#[tactic(auto, unfolding(cl_tree::specs::Literals::simple_escape))]
+fn simple_escape(letter: u8) -> Escape
+    ensures { result ≡ simple_escape letter }
+{
+    escape_in(&ESCAPES, letter)
 }
 
 #[tactic(auto, unfolding(cl_tree::specs::Literals::escape_at))]
@@ -474,45 +470,45 @@ pub fn unescape(alloc: Global, text: &[u8]) -> Result<Option<Vec<u8>>, AllocErro
     Ok(Some(done))
 }
 
-fn escaped_letter(n: usize, escape: Escape) -> Spelling
+fn escaped_letter(n: usize, escape: Escape) -> LiteralValue
     requires { 0 < n }
     ensures { result ≡ escaped_letter n escape }
 {
     match escape {
-        Escape::NoEscape => Spelling::Wrong,
+        Escape::NoEscape => LiteralValue::Wrong,
         Escape::TooBig(k) => {
             if k == n - 1 {
-                Spelling::Unfit
+                LiteralValue::Unfit
             } else {
-                Spelling::Wrong
+                LiteralValue::Wrong
             }
         }
         Escape::Value(b, k) => {
             if k == n - 1 {
-                Spelling::Holds(Literal::Byte(b))
+                LiteralValue::Holds(Literal::Byte(b))
             } else {
-                Spelling::Wrong
+                LiteralValue::Wrong
             }
         }
     }
 }
 
 #[tactic(auto, unfolding(cl_tree::specs::Literals::letter_inside))]
-fn letter_inside(text: &[u8]) -> Spelling
+fn letter_inside(text: &[u8]) -> LiteralValue
     requires { length text.now < 2 ^ 62 }
     ensures { result ≡ letter_inside text.now }
 {
     let first = byte_at(text, 0);
     if text.len() == 1 {
         if is_printable(first) && !(first == b'\'' || first == b'\\') {
-            Spelling::Holds(Literal::Byte(first))
+            LiteralValue::Holds(Literal::Byte(first))
         } else {
-            Spelling::Wrong
+            LiteralValue::Wrong
         }
     } else if !text.is_empty() && first == b'\\' {
         escaped_letter(text.len(), escape_at(&text[1..]))
     } else {
-        Spelling::Wrong
+        LiteralValue::Wrong
     }
 }
 
@@ -528,23 +524,23 @@ pub fn inside(text: &[u8]) -> &[u8]
 
 /// A character constant.
 #[tactic(auto, unfolding(cl_tree::specs::Literals::letter))]
-pub fn letter(text: &[u8]) -> Spelling
+pub fn letter(text: &[u8]) -> LiteralValue
     requires { length text.now < 2 ^ 62 }
     ensures { result ≡ letter text.now }
 {
     if text.len() < 2 {
-        return Spelling::Wrong;
+        return LiteralValue::Wrong;
     }
     if text[0] == b'\'' && text[text.len() - 1] == b'\'' {
         letter_inside(inside(text))
     } else {
-        Spelling::Wrong
+        LiteralValue::Wrong
     }
 }
 
 /// An integer literal or a character constant.
 #[tactic(auto, unfolding(cl_tree::specs::Literals::literal))]
-pub fn literal(text: &[u8]) -> Spelling
+pub fn literal(text: &[u8]) -> LiteralValue
     requires { length text.now < 2 ^ 62 }
     ensures { result ≡ literal text.now }
 {

@@ -1,14 +1,14 @@
 //! What the lexer finds at one place.
 
 use cl_base::name::NoMemory;
-use cl_tree::pieces::{Reading, Rule};
+use cl_tree::pieces::{PieceMeaning, Rule};
 
 /// A piece that breaks no rule: how long it is, whether a piece behind it stands first in its line, and what it is.
 #[derive(Debug, Drop)]
 pub struct Piece {
     pub len: usize,
     pub fresh: bool,
-    pub found: Reading,
+    pub found: PieceMeaning,
 }
 
 /// Why no such piece stands here: the rule, and at which byte from here.

@@ -1,53 +1,13 @@
 //! How far the piece goes that a text begins with.
-ghost use Rattle.std.specs.Prelude.{◌≡◌, false, ◌+◌, ◌<◌, ◌≤◌, length, drop, slice_index};
-ghost use Rattle.cl_tree.specs.Pieces.{is_bad, is_space, is_letter, is_digit, is_word, first_opening, opening_of, opening_in, opening, go, step, opening_len, mark1, mark2, mark3, mark};
+ghost use Rattle.std.specs.Prelude.{◌≡◌, false, ◌+◌, ◌<◌, ◌≤◌, length, drop, map, slice_index};
+ghost use Rattle.cl_tree.specs.Words.{entry};
+ghost use Rattle.cl_tree.specs.Pieces.{first_opening, opening_of, opening_in, opening, is_exponent_letter, go, step, opening_len, mark};
 ghost use Rattle.cl_lex.specs.Scans.{span, closing, longest_mark};
 
+use cl_tree::letters::{is_bad, is_blank, is_digit, is_letter, is_newline, is_word};
 use cl_tree::pieces::{Closed, Next, Opening, Run};
-use cl_tree::token::Mark;
-
-/// Whether a byte may stand nowhere but in a comment.
-#[tactic(auto, unfolding(cl_tree::specs::Pieces::is_bad))]
-pub fn is_bad(b: u8) -> bool
-    ensures { result ≡ is_bad b }
-{
-    if b < 32 {
-        !(b == b'\t' || b == b'\n' || b == b'\r')
-    } else {
-        b > 126
-    }
-}
-
-#[tactic(auto, unfolding(cl_tree::specs::Pieces::is_space))]
-fn is_space(b: u8) -> bool
-    ensures { result ≡ is_space b }
-{
-    b == b' ' || b == b'\t' || b == b'\n' || b == b'\r'
-}
-
-/// Whether a name may begin with a byte (C11 6.4.2.1).
-#[tactic(auto, unfolding(cl_tree::specs::Pieces::is_letter))]
-pub fn is_letter(b: u8) -> bool
-    ensures { result ≡ is_letter b }
-{
-    b.is_ascii_alphabetic() || b == b'_'
-}
-
-/// Whether a byte is a decimal digit.
-#[tactic(auto, unfolding(cl_tree::specs::Pieces::is_digit))]
-pub fn is_digit(b: u8) -> bool
-    ensures { result ≡ is_digit b }
-{
-    b.is_ascii_digit()
-}
-
-/// Whether a name may go on with a byte.
-#[tactic(auto, unfolding(cl_tree::specs::Pieces::is_word))]
-pub fn is_word(b: u8) -> bool
-    ensures { result ≡ is_word b }
-{
-    is_letter(b) || is_digit(b)
-}
+use cl_tree::token::{MARKS, Mark};
+use cl_tree::words::same;
 
 #[tactic(auto, unfolding(cl_tree::specs::Pieces::first_opening))]
 fn first_opening(b: u8) -> Opening
@@ -63,7 +23,7 @@ fn first_opening(b: u8) -> Opening
         Opening::Closes(Closed::Quoted)
     } else if b == b'\'' {
         Opening::Closes(Closed::Letter)
-    } else if is_space(b) {
+    } else if is_blank(b) || is_newline(b) {
         Opening::Space
     } else {
         Opening::Punct
@@ -110,6 +70,13 @@ pub fn opening(fresh: bool, text: &[u8]) -> Opening
     opening_in(fresh, byte_at(text, 0), byte_at(text, 1))
 }
 
+#[tactic(auto, unfolding(cl_tree::specs::Pieces::is_exponent_letter))]
+fn is_exponent_letter(a: u8) -> bool
+    ensures { result ≡ is_exponent_letter a }
+{
+    a == b'e' || a == b'E' || a == b'p' || a == b'P'
+}
+
 /// The byte behind which the run goes on, or None where b is no part of it.
 #[tactic(auto, unfolding(cl_tree::specs::Pieces::go))]
 fn go(run: Run, a: u8, b: u8) -> Option<u8>
@@ -118,17 +85,13 @@ fn go(run: Run, a: u8, b: u8) -> Option<u8>
     match run {
         Run::Letters => { if is_word(b) { Some(b) } else { None } }
         Run::Digits => {
-            if is_word(b)
-                || b == b'.'
-                || ((b == b'+' || b == b'-')
-                    && (a == b'e' || a == b'E' || a == b'p' || a == b'P'))
-            {
+            if is_word(b) || b == b'.' || ((b == b'+' || b == b'-') && is_exponent_letter(a)) {
                 Some(b)
             } else {
                 None
             }
         }
-        Run::Line | Run::Directive => { if b == b'\n' { None } else { Some(b) } }
+        Run::Line | Run::Directive => { if is_newline(b) { None } else { Some(b) } }
     }
 }
 
@@ -145,7 +108,7 @@ fn step(kind: Closed, state: bool, b: u8) -> Next
             }
         }
         Closed::Quoted => {
-            if b == b'\n' {
+            if is_newline(b) {
                 Next::Broken
             } else if state {
                 Next::More(false)
@@ -156,7 +119,7 @@ fn step(kind: Closed, state: bool, b: u8) -> Next
             }
         }
         Closed::Letter => {
-            if b == b'\n' {
+            if is_newline(b) {
                 Next::Broken
             } else if state {
                 Next::More(false)
@@ -215,79 +178,16 @@ pub fn closing(kind: Closed, text: &[u8], from: usize) -> Option<usize>
     None
 }
 
-#[tactic(auto, unfolding(cl_tree::specs::Pieces::mark1))]
-fn mark1(a: u8) -> Option<Mark>
-    ensures { result ≡ mark1 a }
+fn mark_in(mut table: &[(&[u8], Mark)], text: &[u8]) -> Option<Mark>
+    ensures { result ≡ entry (map (λ row. (row.0.now, row.1)) table.entry.now) text.now }
 {
-    match a {
-        b'(' => Some(Mark::OpenParen),
-        b')' => Some(Mark::CloseParen),
-        b'[' => Some(Mark::OpenBracket),
-        b']' => Some(Mark::CloseBracket),
-        b'{' => Some(Mark::OpenBrace),
-        b'}' => Some(Mark::CloseBrace),
-        b';' => Some(Mark::Semicolon),
-        b',' => Some(Mark::Comma),
-        b'.' => Some(Mark::Dot),
-        b'=' => Some(Mark::Assign),
-        b'+' => Some(Mark::Plus),
-        b'-' => Some(Mark::Minus),
-        b'*' => Some(Mark::Star),
-        b'/' => Some(Mark::Slash),
-        b'%' => Some(Mark::Percent),
-        b'~' => Some(Mark::Tilde),
-        b'!' => Some(Mark::Bang),
-        b'&' => Some(Mark::Amp),
-        b'|' => Some(Mark::Bar),
-        b'^' => Some(Mark::Caret),
-        b'<' => Some(Mark::Less),
-        b'>' => Some(Mark::Greater),
-        b'?' => Some(Mark::Question),
-        b':' => Some(Mark::Colon),
-        b'#' => Some(Mark::Hash),
-        _ => None,
+    while let [first, rest @ ..] = table {
+        if same(first.0, text) {
+            return Some(first.1);
+        }
+        table = rest;
     }
-}
-
-#[tactic(auto, unfolding(cl_tree::specs::Pieces::mark2))]
-fn mark2(a: u8, b: u8) -> Option<Mark>
-    ensures { result ≡ mark2 a b }
-{
-    match (a, b) {
-        (b'-', b'>') => Some(Mark::Arrow),
-        (b'+', b'=') => Some(Mark::PlusAssign),
-        (b'-', b'=') => Some(Mark::MinusAssign),
-        (b'*', b'=') => Some(Mark::StarAssign),
-        (b'/', b'=') => Some(Mark::SlashAssign),
-        (b'%', b'=') => Some(Mark::PercentAssign),
-        (b'&', b'=') => Some(Mark::AmpAssign),
-        (b'|', b'=') => Some(Mark::BarAssign),
-        (b'^', b'=') => Some(Mark::CaretAssign),
-        (b'+', b'+') => Some(Mark::PlusPlus),
-        (b'-', b'-') => Some(Mark::MinusMinus),
-        (b'<', b'<') => Some(Mark::LeftShift),
-        (b'>', b'>') => Some(Mark::RightShift),
-        (b'<', b'=') => Some(Mark::AtMost),
-        (b'>', b'=') => Some(Mark::AtLeast),
-        (b'=', b'=') => Some(Mark::Equal),
-        (b'!', b'=') => Some(Mark::Unequal),
-        (b'&', b'&') => Some(Mark::AmpAmp),
-        (b'|', b'|') => Some(Mark::BarBar),
-        (b'#', b'#') => Some(Mark::HashHash),
-        _ => None,
-    }
-}
-
-#[tactic(auto, unfolding(cl_tree::specs::Pieces::mark3))]
-fn mark3(a: u8, b: u8, c: u8) -> Option<Mark>
-    ensures { result ≡ mark3 a b c }
-{
-    match (a, b, c) {
-        (b'.', b'.', b'.') => Some(Mark::Ellipsis),
-        (b'<', b'<', b'=') => Some(Mark::LeftAssign),
-        (b'>', b'>', b'=') => Some(Mark::RightAssign),
-        _ => None,
-    }
+    None
 }
 
 /// The punctuator that these bytes are.
@@ -295,12 +195,7 @@ fn mark3(a: u8, b: u8, c: u8) -> Option<Mark>
 pub fn mark(text: &[u8]) -> Option<Mark>
     ensures { result ≡ mark text.now }
 {
-    match text.len() {
-        1 => mark1(text[0]),
-        2 => mark2(text[0], text[1]),
-        3 => mark3(text[0], text[1], text[2]),
-        _ => None,
-    }
+    mark_in(&MARKS, text)
 }
 
 /// How long the longest punctuator is that a text begins with.

@@ -1,12 +1,12 @@
 -- What the reader's answer says.
-use Rattle.std.proofs.Common.{◌≡◌, ◌⊎◌, inl, inr, ℕ, List, [], ◌∷◌, refl, sym, ◌∙◌, ap, Some, Result, Ok, Err, IfOk, IfErr, MatchResult}
+use Rattle.std.proofs.Common.{◌≡◌, ◌⊎◌, inl, inr, ℕ, List, [], ◌∷◌, refl, sym, ◌∙◌, ap, Option, Some, None, Result, Ok, Err, IfOk, IfErr, MatchResult}
 use Rattle.cl_tree.specs.declared.token.Token.{Token}
 use Rattle.cl_tree.specs.declared.grammar.Piece.{Piece}
 use Rattle.cl_tree.specs.declared.tree.Item.{Item}
 use Rattle.cl_tree.specs.declared.tree.Program.{Program}
 use Rattle.cl_tree.specs.Runs.{pieces}
 use Rattle.cl_tree.specs.Items.{cut}
-use Rattle.cl_tree.specs.Reading.{IsItem, AreItems, ReadsAs, passed_at, WithinLimits, IsFirstUnread, ParseFails}
+use Rattle.cl_tree.specs.Reading.{IsItem, AreItems, ReadsAs, passed_at, WithinLimits, IsUnread, line_of, IsFirstUnread, HasProgram, HasFailure, ParseFails}
 use Rattle.cl_parse.specs.declared.stop.ParseStop.{ParseStop}
 use Rattle.cl_parse.specs.declared.stop.ParseStop.TheVariants.{Rule, NoMemory}
 use Rattle.cl_parse.specs.Answer.{IsFailure, AreOneItems, ProgramAnswer}
@@ -84,3 +84,32 @@ one_items one (ps ∷ pss) (i ∷ is) [] h k = absurd k
 
 pub one_program : (one : (ps : List Piece) (i j : Item) → IsItem ps i → IsItem ps j → i ≡ j) (ts : List Token) (p q : Program) → ReadsAs ts p → ReadsAs ts q → p ≡ q
 one_program one ts p q h k = program_is p q (one_items one (cut (pieces ts)) p.items q.items h k)
+
+-- ---- one answer
+
+-- Under a decision of each list of pieces the items are read, or there is a first that isn't.
+items_or_unread : ((ps : List Piece) → ((i : Item) × IsItem ps i) ⊎ IsUnread ps) → (pss : List (List Piece)) → ((is : List Item) × AreItems pss is) ⊎ ((line : ℕ) × IsFirstUnread pss line)
+items_or_unread decide [] = inl ([], tt)
+items_or_unread decide (ps ∷ pss) = by (decide ps) (items_or_unread decide pss)
+  where
+    by : ((i : Item) × IsItem ps i) ⊎ IsUnread ps → ((is : List Item) × AreItems pss is) ⊎ ((line : ℕ) × IsFirstUnread pss line) → ((is : List Item) × AreItems (ps ∷ pss) is) ⊎ ((line : ℕ) × IsFirstUnread (ps ∷ pss) line)
+    by (inr u) more = inr (line_of ps, inl (u, refl))
+    by (inl i) (inl is) = inl (i.0 ∷ is.0, (i.1, is.1))
+    by (inl i) (inr l) = inr (l.0, inr (i, l.1))
+
+pub answered : ((ps : List Piece) → ((i : Item) × IsItem ps i) ⊎ IsUnread ps) → (ts : List Token) → HasProgram ts ⊎ HasFailure ts
+answered decide ts = by (passed_at ts) refl
+  where
+    read : passed_at ts ≡ None → ((is : List Item) × AreItems (cut (pieces ts)) is) ⊎ ((line : ℕ) × IsFirstUnread (cut (pieces ts)) line) → HasProgram ts ⊎ HasFailure ts
+    read w (inl is) = inl (record { items = is.0 }, w, is.1)
+    read w (inr l) = inr (6, l.0, inr (refl, (w, l.1)))
+
+    by : (o : Option ℕ) → passed_at ts ≡ o → HasProgram ts ⊎ HasFailure ts
+    by (Some line) e = inr (23, line, inl (refl, e))
+    by None e = read e (items_or_unread decide (cut (pieces ts)))
+
+pub one_side : (ts : List Token) → HasProgram ts → HasFailure ts → ⊥
+one_side ts p f = read_fails ts p.0 f.0 f.1 p.1 p.2 f.2
+
+pub same_failure : (ts : List Token) (rule line rule' line' : ℕ) → ParseFails ts rule line → ParseFails ts rule' line' → (rule ≡ rule') × (line ≡ line')
+same_failure ts rule line rule' line' f g = let e = one_failure ts rule line rule' line' f g in (cc, cc)

@@ -4,3 +4,7 @@ pub mod Passed
 pub mod Itemwise
 pub mod Answered
 pub mod Reread
+pub mod Induct
+pub mod Within
+pub mod WithinStatement
+pub mod Recut

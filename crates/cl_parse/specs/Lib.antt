@@ -1,3 +1,4 @@
 pub mod Brackets
 pub mod First
 pub mod Answer
+pub mod Walk

@@ -6,5 +6,3 @@ pub mod first;
 pub mod limits;
 pub mod reader;
 pub mod stop;
-#[cfg(test)]
-mod tests;

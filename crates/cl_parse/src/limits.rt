@@ -1,25 +1,33 @@
 //! The limits of the profile that tokens can pass.
 
-ghost use Rattle.std.specs.Prelude.{◌≡◌, ◌≤◌, IfOk, false};
-ghost use Rattle.cl_tree.specs.Items as items;
+ghost use Rattle.std.specs.Prelude.{◌≡◌, ◌≤◌, [], IfOk, false};
+ghost use Rattle.cl_tree.specs.Limits as limits;
+ghost use Rattle.cl_parse.specs.Walk.{passes, else_count, unseparated, limit_from};
 
 use crate::brackets::{OpenBrackets, is_close};
+use cl_base::limits::{ITEM_ELSES, OPEN_BRACKETS, RUN_TOKENS};
 use cl_base::name::NoMemory;
 use cl_tree::grammar::{Keyword, Piece, Sign};
 use cl_tree::token::Mark;
 use std::alloc::Global;
 
-fn else_count(what: &Sign) -> u32
-    ensures { result ≡ items.is_else what.now }
+fn is_else(what: &Sign) -> bool
+    ensures { result ≡ limits.is_else what.now }
 {
     match what {
-        Sign::Key(Keyword::Else) => 1,
-        _ => 0,
+        Sign::Key(Keyword::Else) => true,
+        _ => false,
     }
 }
 
+fn else_count(what: &Sign) -> u32
+    ensures { result ≡ else_count what.now }
+{
+    if is_else(what) { 1 } else { 0 }
+}
+
 fn separates(what: &Sign) -> bool
-    ensures { result ≡ items.separates what.now }
+    ensures { result ≡ limits.separates what.now }
 {
     match what {
         Sign::Mark(Mark::OpenBrace | Mark::CloseBrace | Mark::Semicolon | Mark::Comma) => true,
@@ -31,23 +39,21 @@ fn separates(what: &Sign) -> bool
 /// The pieces since the last separator, the given one with them.
 fn unseparated(run: u32, what: &Sign) -> u32
     requires { run ≤ 512 }
-    ensures { result ≡ items.unseparated run what.now }
+    ensures { result ≡ unseparated run what.now }
 {
     if separates(what) { 0 } else { run + 1 }
 }
 
 fn is_over(brackets: &OpenBrackets, elses: u32, run: u32) -> bool
-    ensures over { result ≡ items.is_over brackets.now elses run }
+    ensures over { result ≡ passes brackets.now elses run }
     ensures within { result ≡ false → (elses ≤ 256) × (run ≤ 512) }
 {
-    brackets.len() > 64 || elses > 256 || run > 512
+    brackets.len() > OPEN_BRACKETS as usize || elses > ITEM_ELSES || run > RUN_TOKENS
 }
 
-/// The line of the first piece that passes a limit: a 65th open bracket, a 257th `else` in one item, or
-/// a 513th piece in a row without `{`, `}`, `;`, `,` or a directive.
-#[tactic(auto, unfolding(cl_tree::specs::Items::limit_passed, cl_tree::specs::Items::limit_from), using(crate::proofs::Passed::limit_next, crate::proofs::Passed::limit_stop))]
-pub fn limit_passed(alloc: Global, pieces: &[Piece]) -> Result<Option<u32>, NoMemory>
-    ensures { IfOk result (λ line. line ≡ items.limit_passed pieces.now) }
+#[tactic(auto, unfolding(crate::specs::Walk::limit_from), using(crate::proofs::Passed::limit_next, crate::proofs::Passed::limit_stop))]
+fn first_over(alloc: Global, pieces: &[Piece]) -> Result<Option<u32>, NoMemory>
+    ensures { IfOk result (λ line. line ≡ limit_from [] false 0 0 pieces.now) }
 {
     let mut brackets = OpenBrackets::new(alloc);
     let mut after = false;
@@ -68,4 +74,13 @@ pub fn limit_passed(alloc: Global, pieces: &[Piece]) -> Result<Option<u32>, NoMe
         rest = next;
     }
     Ok(None)
+}
+
+/// The line of the first piece that passes a limit: a 65th open bracket, a 257th `else` in one item, or
+/// a 513th piece in a row without `{`, `}`, `;`, `,` or a directive.
+#[tactic(auto, using(crate::proofs::Passed::limit_is))]
+pub fn limit_passed(alloc: Global, pieces: &[Piece]) -> Result<Option<u32>, NoMemory>
+    ensures { IfOk result (λ line. line ≡ limits.limit_passed pieces.now) }
+{
+    first_over(alloc, pieces)
 }

@@ -1,10 +1,12 @@
 //! From tokens to the program that they spell.
 
-ghost use Rattle.std.specs.Prelude.{◌≡◌, ◌⊎◌, ℕ, List, IfOk, IfErr, MatchResult};
+ghost use Rattle.std.specs.Prelude.{◌≡◌, ◌⊎◌, ℕ, List, [], IfOk, IfErr, MatchResult};
+ghost use Rattle.cl_tree.specs.declared.grammar.Piece.{Piece as PieceValue};
+ghost use Rattle.cl_tree.specs.Spelling.{Reads};
 ghost use Rattle.cl_tree.specs.declared.token.Token.{Token as TokenValue};
 ghost use Rattle.cl_tree.specs.declared.tree.Program.{Program as ProgramValue};
-ghost use Rattle.cl_tree.specs.Items.{cut};
-ghost use Rattle.cl_tree.specs.Reading.{ReadsAs, WithinLimits, ParseFails};
+ghost use Rattle.cl_tree.specs.Items.{cut, WellFormed, program_spelling};
+ghost use Rattle.cl_tree.specs.Reading.{AreItems, ReadsAs, WithinLimits, HasProgram, HasFailure, ParseFails};
 ghost use Rattle.cl_parse.specs.Answer.{IsFailure, ItemAnswer, ItemsAnswer, ProgramAnswer};
 
 use crate::first::first_item;
@@ -81,8 +83,18 @@ pub fn parse(alloc: Global, tokens: &[Token]) -> Result<Program, ParseStop>
     read_program(alloc, tokens)
 }
 
-/// No tokens are two programs.
-#[tactic(auto, using(crate::proofs::Reread::one_reading))]
-pub fn one_reading()
-    ensures { (tokens : List TokenValue) (p q : ProgramValue) → ReadsAs tokens p → ReadsAs tokens q → p ≡ q }
+/// A law: tokens have a program within the limits or a failure, and not both; no tokens are two
+/// programs, and none fail in two ways.
+pub fn one_answer()
+    ensures some { (tokens : List TokenValue) → HasProgram tokens ⊎ HasFailure tokens }
+    ensures not_both { (tokens : List TokenValue) → HasProgram tokens → HasFailure tokens → ⊥ }
+    ensures one_program { (tokens : List TokenValue) (p q : ProgramValue) → ReadsAs tokens p → ReadsAs tokens q → p ≡ q }
+    ensures one_failure { (tokens : List TokenValue) (rule line r l : ℕ) → ParseFails tokens rule line → ParseFails tokens r l → (rule ≡ r) × (line ≡ l) }
+{}
+
+/// A law: the spelling of a well-formed program is cut back into its items, and pieces that are cut into
+/// its items are that spelling.
+pub fn one_spelling()
+    ensures cut_back { (program : ProgramValue) (pieces : List PieceValue) → WellFormed program → Reads (program_spelling program) pieces [] → AreItems (cut pieces) program.items }
+    ensures spelled { (program : ProgramValue) (pieces : List PieceValue) → AreItems (cut pieces) program.items → WellFormed program × Reads (program_spelling program) pieces [] }
 {}

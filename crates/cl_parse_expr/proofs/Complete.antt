@@ -1,6 +1,6 @@
 -- What is spelled so is read.
 use Rattle.std.proofs.Common.{◌≡◌, ℕ, zero, suc, ◌+◌, ◌<◌, ◌≤◌, List, [], ◌∷◌, ◌++◌, length, map, refl, subst, sym, ap, ◌∙◌, arith, Bool, true, false, ◌&&◌, cond, ltb, leb, eqb, Option, Some, None, inl, inr, ◌⊎◌, append_assoc}
-use Rattle.std.proofs.lemmas.Bool.{eqb-true, eq-eqb, ltb-false, ltb-true, leb-true, le-leb, lt-ltb, le-ltb}
+use Rattle.std.proofs.lemmas.Bool.{ltb-false, ltb-true, leb-true, le-leb, lt-ltb, le-ltb}
 use Rattle.std.specs.List.{flat_map}
 use Rattle.std.proofs.lemmas.List.{append-nil}
 use Rattle.cl_tree.specs.declared.kinds.UnOp.{UnOp}
@@ -21,7 +21,7 @@ use Rattle.cl_tree.specs.declared.tree.Node.TheOpen as node
 use Rattle.cl_tree.specs.declared.tree.Node.TheVariants as made
 use Rattle.cl_tree.specs.declared.tree.Node.TheVariants.{rolls-Number, rolls-Real, rolls-Letter, rolls-Text, rolls-Variable, rolls-Unary, rolls-Binary, rolls-Choice, rolls-Cast, rolls-Call, rolls-Index, rolls-Member, rolls-Arrow, rolls-Paren}
 use Rattle.cl_tree.specs.Words.{Word}
-use Rattle.cl_tree.specs.Spelling.{Want, is, Wanted, Meets, Spelling, put_on, put, put_at, put_mark, mark_at, mark_on, Fits, Reads, TypeShape, type_shape, type_name, is_empty, held_by, holder, star_lines, floating_lines, other_lines, base_on, stars_on, Shape, node_step, shape, binds, commas, all_proper, unary_mark, binary_mark, leaf}
+use Rattle.cl_tree.specs.Spelling.{Want, is, Wanted, Meets, Spelling, put_on, put, put_mark, mark_on, Fits, Reads, TypeShape, type_shape, type_name, is_empty, held_by, holder, star_lines, floating_lines, other_lines, base_on, stars_on, Shape, node_step, shape, binds, commas, all_proper, unary_mark, binary_mark, leaf}
 use Rattle.cl_parse_expr.specs.declared.cursor.Fixed.{Fixed}
 use Rattle.cl_parse_expr.specs.declared.cursor.Fixed.TheVariants as fixed
 use Rattle.cl_parse_expr.specs.declared.cursor.Link.{Link}
@@ -31,9 +31,10 @@ use Rattle.cl_parse_expr.specs.declared.cursor.Start.TheVariants as start
 use Rattle.cl_parse_expr.specs.Cursor.{◌>>=◌, Pieces, after, found, same_mark, same_key, fixed_sign, is_fixed, name_at, start_of, mark_link, link_of, pull, link_at, line_of}
 use Rattle.cl_parse_expr.specs.Types.{base_at, base_step, type_of, pointers_at, second_at}
 use Rattle.cl_parse_expr.specs.Reading.{Reader, tree, opening, close, comma, more_at, args_at, cast_from, cast_at, paren_at, start_step, head_step, head_of, grow, loop_of, expr_of, expr_at}
-use Rattle.cl_parse_expr.proofs.Shapes.{Parts, expr_induction, tree_is, shape_is, shape_open, shaped, shape_made, line_is, edge_of, edge, edge_is, edge_open, IsEdge, binds_from, binds_to}
+use Rattle.cl_parse_expr.proofs.Shapes.{Parts, expr_induction, tree_is, shape_is, shape_open, shaped, shape_made, edge_of, edge, edge_is, edge_open, IsEdge, binds_from, binds_to}
 use Rattle.cl_parse_expr.proofs.Marks.{some_of, some_is, and_intro, and_elim, reads_append, reads_split, reads_length, fixed_on, Stands, after_reads, found_sound, is_fixed_true, no_piece, not_other, bind_some, found_ok, Named, name_reads}
 use Rattle.cl_parse_expr.proofs.TypeNames.{made_of, pointed, arrayed, type_is_made, Based, base_reads, begins_type, no_type, asterisk, second_line, second_back, Starred, NoStar, pointers_read}
+use Rattle.cl_parse_expr.proofs.First.{IsFirst, want_first, Begins, begins, Led, led}
 use Rattle.cl_parse_expr.proofs.Sound.{pull_at, pull_at_to, pull_to, link_sign}
 
 -- what may follow an expression doesn't open an argument list
@@ -136,55 +137,6 @@ done_step E n (suc m) done (e ∷ es) ts rest all lt le p h =
     rw (a.found, one, more) (rw append_assoc refl)
 
 -- ---- the first piece of an expression
-
--- a sign that an expression begins with
-abbrev pub IsFirst : Sign → Type 0
-IsFirst (sign.Integer v k) = Unit {0}
-IsFirst sign.Floating = Unit {0}
-IsFirst (sign.Letter b) = Unit {0}
-IsFirst (sign.Text bs) = Unit {0}
-IsFirst (sign.Name n) = Unit {0}
-IsFirst (sign.Mark m) = start_of m ≡ start.Nothing → ⊥
-IsFirst _ = ⊥
-
-abbrev pub want_first : Want → Type 0
-want_first (is s) = IsFirst s
-want_first _ = ⊥
-
-abbrev pub Begins : Spelling → Type 0
-Begins [] = ⊥
-Begins (m ∷ ms) = want_first m.what
-
-pub begins_append : (ms ns : Spelling) → Begins ms → Begins (ms ++ ns)
-begins_append [] ns h = absurd h
-begins_append (m ∷ ms) ns h = h
-
-unary_first : (op : UnOp) → start_of (unary_mark op) ≡ start.Nothing → ⊥
-unary_first unary.Minus e = cc
-unary_first unary.Plus e = cc
-unary_first unary.Flip e = cc
-unary_first unary.Not e = cc
-unary_first unary.Star e = cc
-unary_first unary.Amp e = cc
-
-begins_step : (x : Node-F Node Expr) (l s : ℕ) → Parts (λ e. Begins (shape e).spelling) x → Begins (node_step (shaped x) l s).spelling
-begins_step (node.Number v k) l s h = tt
-begins_step node.Real l s h = tt
-begins_step (node.Letter b) l s h = tt
-begins_step (node.Text bs) l s h = tt
-begins_step (node.Variable n) l s h = tt
-begins_step (node.Unary op e) l s h = unary_first op
-begins_step (node.Binary op a b) l s h = begins_append (shape a).spelling _ h.0
-begins_step (node.Choice c a b) l s h = begins_append (shape c).spelling _ h.0
-begins_step (node.Cast t e) l s h = λ e. cc
-begins_step (node.Call n es) l s h = tt
-begins_step (node.Index a b) l s h = begins_append (shape a).spelling _ h.0
-begins_step (node.Member a n) l s h = begins_append (shape a).spelling _ h
-begins_step (node.Arrow a n) l s h = begins_append (shape a).spelling _ h
-begins_step (node.Paren e) l s h = λ e. cc
-
-pub begins : (e : Expr) → Begins (shape e).spelling
-begins = expr_induction (λ e. Begins (shape e).spelling) (λ e h. subst (λ (y : Shape). Begins y.spelling) (sym (shape_is e)) (begins_step (out-Node e.node) e.line e.second h))
 
 -- a fixed piece that begins no expression
 abbrev pub NoFirst : Fixed → Type 0
@@ -317,12 +269,12 @@ opened k p x ts rest o h =
     }
 
 -- a piece that is the whole expression, whatever follows
-leaf_head : (E : Reader) (s : Sign) (n : Node) → ((line : ℕ) (ts : Pieces) → NotOpen ts → head_step E line s ts ≡ Some (tree line line n, ts)) → (l c : ℕ) (ts rest : Pieces) → eqb c l ≡ true → NotOpen rest → Reads (put_at l s []) ts rest → head_of E ts ≡ Some (tree l c n, rest)
+leaf_head : (E : Reader) (s : Sign) (n : Node) → ((line : ℕ) (ts : Pieces) → NotOpen ts → head_step E line s ts ≡ Some (tree line line n, ts)) → (l c : ℕ) (ts rest : Pieces) → NotOpen rest → Reads (put_on (l ∷ c ∷ []) s []) ts rest → head_of E ts ≡ Some (tree l c n, rest)
 unfolding head_of
-leaf_head E s n step l c [] rest q shut h = absurd h
-leaf_head E s n step l c (t ∷ ts) rest q shut h =
+leaf_head E s n step l c [] rest shut h = absurd h
+leaf_head E s n step l c (t ∷ ts) rest shut h =
     let e : head_step E t.line s ts ≡ Some (tree t.line t.line n, ts) = step t.line ts (subst NotOpen (sym h.2) shut) in
-    rw (h.0, e) (ended t.line l c ts rest n h.1.0 (eqb-true c l q) h.2)
+    rw (h.0, e) (ended t.line l c ts rest n h.1.0 (sym h.1.1.0 ∙ h.1.0) h.2)
   where
     ended : (t l c : ℕ) (ts rest : Pieces) (n : Node) → t ≡ l → c ≡ l → ts ≡ rest → some_of {A = Expr × Pieces} (tree t t n, ts) ≡ Some (tree l c n, rest)
     ended t l c ts rest n e f g = rw (e, f, g) refl
@@ -348,12 +300,13 @@ before_sign E n all e f lines ms ts rest lt p q h =
       less = omega arith;
     }
 
-paren_head : (E : Reader) (n : ℕ) → Complete E n → (e : Expr) (l c : ℕ) (ts rest : Pieces) → length ts < suc n → c ≡ l → (shape e).proper ≡ true → Reads (mark_at l mark.OpenParen ((shape e).spelling ++ put_mark mark.CloseParen [])) ts rest → head_of E ts ≡ Some (tree l c (made.Paren e), rest)
+paren_head : (E : Reader) (n : ℕ) → Complete E n → (e : Expr) (l c : ℕ) (ts rest : Pieces) → length ts < suc n → (shape e).proper ≡ true → Reads (mark_on (l ∷ c ∷ []) mark.OpenParen ((shape e).spelling ++ put_mark mark.CloseParen [])) ts rest → head_of E ts ≡ Some (tree l c (made.Paren e), rest)
 unfolding head_of start_step paren_at
-paren_head E n all e l c [] rest lt q p h = absurd h
-paren_head E n all e l c (t ∷ ts) rest lt q p h =
+paren_head E n all e l c [] rest lt p h = absurd h
+paren_head E n all e l c (t ∷ ts) rest lt p h =
     let b = before_sign E n all e close [] [] ts rest (omega arith) p close_ends h.2 in
     let r = reads_split (shape e).spelling (put_mark mark.CloseParen []) ts rest h.2 in
+    let q : c ≡ l = sym h.1.1.0 ∙ h.1.0 in
     rw (h.0, starts_no_type e ts r.0 r.1, b.found, b.stands.found, b.stands.reads, h.1.0, q) refl
 
 -- no star where an expression in parentheses ends
@@ -419,20 +372,22 @@ start_of_unary unary.Not = refl
 start_of_unary unary.Star = refl
 start_of_unary unary.Amp = refl
 
-unary_head : (E : Reader) (n : ℕ) → Complete E n → (op : UnOp) (e : Expr) (l c : ℕ) (ts rest : Pieces) → length ts < suc n → c ≡ l → (shape e).proper ≡ true → 12 ≤ (shape e).level → NotOpen rest → pull_at rest < 12 → Reads (mark_at l (unary_mark op) (shape e).spelling) ts rest → head_of E ts ≡ Some (tree l c (made.Unary op e), rest)
+unary_head : (E : Reader) (n : ℕ) → Complete E n → (op : UnOp) (e : Expr) (l c : ℕ) (ts rest : Pieces) → length ts < suc n → (shape e).proper ≡ true → 12 ≤ (shape e).level → NotOpen rest → pull_at rest < 12 → Reads (mark_on (l ∷ c ∷ []) (unary_mark op) (shape e).spelling) ts rest → head_of E ts ≡ Some (tree l c (made.Unary op e), rest)
 unfolding head_of start_step
-unary_head E n all op e l c [] rest lt q p v shut f h = absurd h
-unary_head E n all op e l c (t ∷ ts) rest lt q p v shut f h =
+unary_head E n all op e l c [] rest lt p v shut f h = absurd h
+unary_head E n all op e l c (t ∷ ts) rest lt p v shut f h =
     let a = all 12 e ts rest (omega arith) (record { some = omega arith; most = omega arith; proper = p; level = v; reads = h.2; closed = shut }) f in
+    let q : c ≡ l = sym h.1.1.0 ∙ h.1.0 in
     rw (h.0, start_of_unary op, a, h.1.0, q) refl
 
-call_head : (E : Reader) (n : ℕ) → Complete E n → (name : Word) (es : List Expr) (l c : ℕ) (ts rest : Pieces) → length ts < suc n → c ≡ l → all_proper (map shape es) ≡ true → Reads (put_at l (sign.Name name) (put_mark mark.OpenParen (commas (marks_of es) ++ put_mark mark.CloseParen []))) ts rest → head_of E ts ≡ Some (tree l c (made.Call name es), rest)
+call_head : (E : Reader) (n : ℕ) → Complete E n → (name : Word) (es : List Expr) (l c : ℕ) (ts rest : Pieces) → length ts < suc n → all_proper (map shape es) ≡ true → Reads (put_on (l ∷ c ∷ []) (sign.Name name) (put_mark mark.OpenParen (commas (marks_of es) ++ put_mark mark.CloseParen []))) ts rest → head_of E ts ≡ Some (tree l c (made.Call name es), rest)
 unfolding head_of
-call_head E n all name es l c [] rest lt q p h = absurd h
-call_head E n all name es l c (t ∷ ts) rest lt q p h =
+call_head E n all name es l c [] rest lt p h = absurd h
+call_head E n all name es l c (t ∷ ts) rest lt p h =
     let a = after_reads opening [] _ ts rest h.2 in
     let long = a.less in
     let r = args_read E n all es a.next rest (omega arith) p a.reads in
+    let q : c ≡ l = sym h.1.1.0 ∙ h.1.0 in
     rw (h.0, a.found, r, h.1.0, q) refl
 
 -- ---- the links
@@ -524,9 +479,6 @@ arrow_closed : is_fixed opening (sign.Mark mark.Arrow) ≡ false
 unfolding same_mark
 arrow_closed = refl
 
-sym_line : (l : ℕ) (a : Expr) → eqb l (shape a).line ≡ true → l ≡ a.line
-sym_line l a e = eqb-true l (shape a).line e ∙ line_is a
-
 -- The operand on the left is read, and then the link and what it takes.
 from_left : (E : Reader) (n k : ℕ) (p a : Expr) (x : Link) (m : Mark) (lines : List ℕ) (ms : Spelling) (ts rest : Pieces) → GoesAll E n a → length ts < suc n → 1 ≤ k → k ≤ 12 → (shape a).proper ≡ true → k ≤ (shape a).level → mark_link m ≡ x → k ≤ pull x → pull x < edge a → is_fixed opening (sign.Mark m) ≡ false
     → Reads ((shape a).spelling ++ mark_on lines m ms) ts rest
@@ -553,7 +505,7 @@ leaf_goes : (E : Reader) (k : ℕ) (p : Expr) (x : Node-F Node Expr) (s : Sign) 
 leaf_goes E k p x s n ts rest o r q step h =
     let w = opened k p x ts rest o h in
     by_head E k p ts rest
-    (leaf_head E s n step p.line p.second ts rest (subst (λ (y : Shape). y.proper ≡ true) q w.proper) h.closed (subst (λ (y : Shape). Reads y.spelling ts rest) q w.reads)
+    (leaf_head E s n step p.line p.second ts rest h.closed (subst (λ (y : Shape). Reads y.spelling ts rest) q w.reads)
     ∙ ap (λ (y : Expr). as_found y rest) (made_is p x n o r))
 
 goes_step : (E : Reader) (n : ℕ) → Complete E n → (p : Expr) (x : Node-F Node Expr) → out-Node p.node ≡ x → Parts (GoesAll E n) x → GoesAll E n p
@@ -564,14 +516,12 @@ goes_step E n all p (node.Text bs) o parts k ts rest lt h f = leaf_goes E k p _ 
 goes_step E n all p (node.Variable name) o parts k ts rest lt h f = leaf_goes E k p _ (sign.Name name) _ ts rest o (rolls-Variable name) refl (name_alone E name) h
 goes_step E n all p (node.Paren e) o parts k ts rest lt h f =
     let w = opened k p (node.Paren e) ts rest o h in
-    let q = and_elim _ _ w.proper in
-    by_head E k p ts rest (paren_head E n all e p.line p.second ts rest lt (eqb-true _ _ q.0) q.1 w.reads ∙ ap (λ (y : Expr). as_found y rest) (made_is p _ _ o (rolls-Paren e)))
+    by_head E k p ts rest (paren_head E n all e p.line p.second ts rest lt w.proper w.reads ∙ ap (λ (y : Expr). as_found y rest) (made_is p _ _ o (rolls-Paren e)))
 goes_step E n all p (node.Unary op e) o parts k ts rest lt h f =
     let w = opened k p (node.Unary op e) ts rest o h in
-    let q = and_elim _ _ w.proper in
-    let r = and_elim _ _ q.1 in
+    let r = and_elim _ _ w.proper in
     let limit : pull_at rest < 12 = subst (λ (y : ℕ). pull_at rest < y) (edge_open p _ o) f in
-    by_head E k p ts rest (unary_head E n all op e p.line p.second ts rest lt (eqb-true _ _ q.0) r.1 (leb-true _ _ r.0) h.closed limit w.reads ∙ ap (λ (y : Expr). as_found y rest) (made_is p _ _ o (rolls-Unary op e)))
+    by_head E k p ts rest (unary_head E n all op e p.line p.second ts rest lt r.1 (leb-true _ _ r.0) h.closed limit w.reads ∙ ap (λ (y : Expr). as_found y rest) (made_is p _ _ o (rolls-Unary op e)))
 goes_step E n all p (node.Cast u e) o parts k ts rest lt h f =
     let w = opened k p (node.Cast u e) ts rest o h in
     let q = and_elim _ _ w.proper in
@@ -580,57 +530,54 @@ goes_step E n all p (node.Cast u e) o parts k ts rest lt h f =
     by_head E k p ts rest (cast_head E n all u e p.line p.second ts rest lt q.0 r.1 (leb-true _ _ r.0) h.closed limit w.reads ∙ ap (λ (y : Expr). as_found y rest) (made_is p _ _ o (rolls-Cast u e)))
 goes_step E n all p (node.Call name es) o parts k ts rest lt h f =
     let w = opened k p (node.Call name es) ts rest o h in
-    let q = and_elim _ _ w.proper in
-    by_head E k p ts rest (call_head E n all name es p.line p.second ts rest lt (eqb-true _ _ q.0) q.1 w.reads ∙ ap (λ (y : Expr). as_found y rest) (made_is p _ _ o (rolls-Call name es)))
+    by_head E k p ts rest (call_head E n all name es p.line p.second ts rest lt w.proper w.reads ∙ ap (λ (y : Expr). as_found y rest) (made_is p _ _ o (rolls-Call name es)))
 goes_step E n all p (node.Binary op a b) o parts k ts rest lt h f =
     let w = opened k p (node.Binary op a b) ts rest o h in
-    let q = and_elim _ _ w.proper in
-    let r = and_elim _ _ q.1 in
+    let q = led (p.line ∷ []) a _ ts rest w.reads in
+    let r = and_elim _ _ w.proper in
     let v = and_elim _ _ r.0 in
     let u = and_elim _ _ r.1 in
     let high = leb-true _ _ v.0 in
     let limit : pull_at rest < suc (binds op) = subst (λ (y : ℕ). pull_at rest < y) (edge_open p _ o) f in
     let g = edge_is a in
-    from_left E n k p a (link.Binary op) (binary_mark op) (p.second ∷ []) (shape b).spelling ts rest parts.0 lt h.some h.most u.0 (omega (arith, w.level)) (binary_link_of op) w.level (g.strict (binds op) (binds_from op) (binds_to op) high) (binary_closed op) w.reads
-    (λ line next less fits reads. binary_grow E n all op a b p.line p.second line next rest less (sym_line p.line a q.0) fits.0 u.1 (leb-true _ _ v.1) h.closed limit reads ∙ ap (λ (y : Expr). as_found y rest) (made_is p _ _ o (rolls-Binary op a b)))
+    from_left E n k p a (link.Binary op) (binary_mark op) (p.second ∷ []) (shape b).spelling ts rest parts.0 lt h.some h.most u.0 (omega (arith, w.level)) (binary_link_of op) w.level (g.strict (binds op) (binds_from op) (binds_to op) high) (binary_closed op) q.reads
+    (λ line next less fits reads. binary_grow E n all op a b p.line p.second line next rest less (sym q.fits.0) fits.0 u.1 (leb-true _ _ v.1) h.closed limit reads ∙ ap (λ (y : Expr). as_found y rest) (made_is p _ _ o (rolls-Binary op a b)))
 goes_step E n all p (node.Choice c a b) o parts k ts rest lt h f =
     let w = opened k p (node.Choice c a b) ts rest o h in
-    let q = and_elim _ _ w.proper in
-    let z = and_elim _ _ q.1 in
-    let r = and_elim _ _ z.1 in
+    let q = led (p.line ∷ p.second ∷ []) c _ ts rest w.reads in
+    let r = and_elim _ _ w.proper in
     let v = and_elim _ _ r.1 in
     let u = and_elim _ _ v.1 in
     let high = leb-true _ _ r.0 in
     let limit : pull_at rest < 1 = subst (λ (y : ℕ). pull_at rest < y) (edge_open p _ o) f in
     let g = edge_is c in
-    from_left E n k p c link.Choice mark.Question [] _ ts rest parts.0 lt h.some h.most v.0 (omega (arith, w.level)) refl w.level (g.below 2 high (omega arith)) question_closed w.reads
-    (λ line next less fits reads. choice_grow E n all c a b p.line p.second line next rest less (sym_line p.line c q.0) (eqb-true _ _ z.0) u.0 u.1 h.closed limit reads ∙ ap (λ (y : Expr). as_found y rest) (made_is p _ _ o (rolls-Choice c a b)))
+    from_left E n k p c link.Choice mark.Question [] _ ts rest parts.0 lt h.some h.most v.0 (omega (arith, w.level)) refl w.level (g.below 2 high (omega arith)) question_closed q.reads
+    (λ line next less fits reads. choice_grow E n all c a b p.line p.second line next rest less (sym q.fits.0) (sym q.fits.1.0 ∙ q.fits.0) u.0 u.1 h.closed limit reads ∙ ap (λ (y : Expr). as_found y rest) (made_is p _ _ o (rolls-Choice c a b)))
 goes_step E n all p (node.Index a i) o parts k ts rest lt h f =
     let w = opened k p (node.Index a i) ts rest o h in
-    let q = and_elim _ _ w.proper in
-    let r = and_elim _ _ q.1 in
+    let q = led (p.line ∷ []) a _ ts rest w.reads in
+    let r = and_elim _ _ w.proper in
     let u = and_elim _ _ r.1 in
     let high = leb-true _ _ r.0 in
     let g = edge_is a in
-    from_left E n k p a link.Index mark.OpenBracket (p.second ∷ []) _ ts rest parts.0 lt h.some h.most u.0 (omega (arith, h.most)) refl w.level (g.postfix high) index_closed w.reads
-    (λ line next less fits reads. index_grow E n all a i p.line p.second line next rest less (sym_line p.line a q.0) fits.0 u.1 reads ∙ ap (λ (y : Expr). as_found y rest) (made_is p _ _ o (rolls-Index a i)))
+    from_left E n k p a link.Index mark.OpenBracket (p.second ∷ []) _ ts rest parts.0 lt h.some h.most u.0 (omega (arith, h.most)) refl w.level (g.postfix high) index_closed q.reads
+    (λ line next less fits reads. index_grow E n all a i p.line p.second line next rest less (sym q.fits.0) fits.0 u.1 reads ∙ ap (λ (y : Expr). as_found y rest) (made_is p _ _ o (rolls-Index a i)))
 goes_step E n all p (node.Member a name) o parts k ts rest lt h f =
     let w = opened k p (node.Member a name) ts rest o h in
-    let q = and_elim _ _ w.proper in
-    let z = and_elim _ _ q.1 in
-    let r = and_elim _ _ z.1 in
+    let q = led (p.line ∷ p.second ∷ []) a _ ts rest w.reads in
+    let r = and_elim _ _ w.proper in
     let high = leb-true _ _ r.0 in
     let g = edge_is a in
-    from_left E n k p a link.Member mark.Dot [] _ ts rest parts lt h.some h.most r.1 (omega (arith, h.most)) refl w.level (g.postfix high) dot_closed w.reads
-    (λ line next less fits reads. member_grow E a name p.line p.second line next rest (sym_line p.line a q.0) (eqb-true _ _ z.0) reads ∙ ap (λ (y : Expr). as_found y rest) (made_is p _ _ o (rolls-Member a name)))
+    from_left E n k p a link.Member mark.Dot [] _ ts rest parts lt h.some h.most r.1 (omega (arith, h.most)) refl w.level (g.postfix high) dot_closed q.reads
+    (λ line next less fits reads. member_grow E a name p.line p.second line next rest (sym q.fits.0) (sym q.fits.1.0 ∙ q.fits.0) reads ∙ ap (λ (y : Expr). as_found y rest) (made_is p _ _ o (rolls-Member a name)))
 goes_step E n all p (node.Arrow a name) o parts k ts rest lt h f =
     let w = opened k p (node.Arrow a name) ts rest o h in
-    let q = and_elim _ _ w.proper in
-    let r = and_elim _ _ q.1 in
+    let q = led (p.line ∷ []) a _ ts rest w.reads in
+    let r = and_elim _ _ w.proper in
     let high = leb-true _ _ r.0 in
     let g = edge_is a in
-    from_left E n k p a link.Arrow mark.Arrow (p.second ∷ []) _ ts rest parts lt h.some h.most r.1 (omega (arith, h.most)) refl w.level (g.postfix high) arrow_closed w.reads
-    (λ line next less fits reads. arrow_grow E a name p.line p.second line next rest (sym_line p.line a q.0) fits.0 reads ∙ ap (λ (y : Expr). as_found y rest) (made_is p _ _ o (rolls-Arrow a name)))
+    from_left E n k p a link.Arrow mark.Arrow (p.second ∷ []) _ ts rest parts lt h.some h.most r.1 (omega (arith, h.most)) refl w.level (g.postfix high) arrow_closed q.reads
+    (λ line next less fits reads. arrow_grow E a name p.line p.second line next rest (sym q.fits.0) fits.0 reads ∙ ap (λ (y : Expr). as_found y rest) (made_is p _ _ o (rolls-Arrow a name)))
 
 goes_all : (E : Reader) (n : ℕ) → Complete E n → (p : Expr) → GoesAll E n p
 goes_all E n all = expr_induction (GoesAll E n) (λ p h. goes_step E n all p (out-Node p.node) refl h)

@@ -9,10 +9,10 @@ use Rattle.cl_tree.specs.declared.grammar.Sign.{Sign}
 use Rattle.cl_tree.specs.declared.grammar.Sign.TheVariants as sign
 use Rattle.cl_tree.specs.declared.grammar.Piece.{Piece}
 use Rattle.cl_tree.specs.Words.{Word}
-use Rattle.cl_tree.specs.Spelling.{Want, is, size, Wanted, Spelling, put_on, Meets, Fits, Reads}
+use Rattle.cl_tree.specs.Spelling.{Want, is, size, Wanted, Spelling, put_on, first_on, Meets, Fits, Reads}
 use Rattle.cl_parse_expr.specs.declared.cursor.Fixed.{Fixed}
 use Rattle.cl_parse_expr.specs.declared.cursor.Fixed.TheVariants as fixed
-use Rattle.cl_parse_expr.specs.Cursor.{◌>>=◌, Pieces, same_mark, same_key, fixed_sign, is_fixed, after, found, name_step, name_at}
+use Rattle.cl_parse_expr.specs.Cursor.{◌>>=◌, Pieces, same_mark, same_key, fixed_sign, is_fixed, after, found, name_step, name_at, line_of}
 
 abbrev pub some_of : {A : Type 0} → A → Option A
 some_of x = Some x
@@ -39,6 +39,20 @@ reads_split (m ∷ ms) ns [] rest h = absurd h
 reads_split (m ∷ ms) ns (t ∷ ts) rest h =
     let r = reads_split ms ns ts rest h.2 in
     (r.0, (h.0, h.1, r.1), r.2)
+
+pub fits_append : (ls ms : List ℕ) (line : ℕ) → Fits ls line → Fits ms line → Fits (ls ++ ms) line
+fits_append [] ms line f g = g
+fits_append (l ∷ ls) ms line f g = (f.0, fits_append ls ms line f.1 g)
+
+pub fits_split : (ls ms : List ℕ) (line : ℕ) → Fits (ls ++ ms) line → Fits ls line × Fits ms line
+fits_split [] ms line f = (tt, f)
+fits_split (l ∷ ls) ms line f = let r = fits_split ls ms line f.1 in ((f.0, r.0), r.1)
+
+-- Further lines of the first piece are those on which it stands.
+pub first_reads : (lines : List ℕ) (ms : Spelling) (ts rest : Pieces) → Fits lines (line_of ts) → Reads ms ts rest → Reads (first_on lines ms) ts rest
+first_reads lines [] ts rest f h = h
+first_reads lines (m ∷ ms) [] rest f h = absurd h
+first_reads lines (m ∷ ms) (t ∷ ts) rest f h = (h.0, fits_append lines m.lines t.line f h.1, h.2)
 
 pub reads_length : (ms : Spelling) (ts rest : Pieces) → Reads ms ts rest → length rest + length ms ≡ length ts
 reads_length [] ts rest h = rw h (omega arith)

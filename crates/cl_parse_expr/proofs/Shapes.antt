@@ -30,25 +30,6 @@ shape_open p x e = shape_is p ∙ ap (λ (y : Node-F Node Expr). node_step (shap
 pub tree_is : (p : Expr) (x : Node-F Node Expr) → out-Node p.node ≡ x → tree p.line p.second (roll-Node x) ≡ p
 tree_is p x e = ap (λ (n : Node). tree p.line p.second n) (ap (λ (y : Node-F Node Expr). roll-Node y) (sym e) ∙ roll-out-Node p.node)
 
-line_step : (x : Node-F Node Expr) (l s : ℕ) → (node_step (shaped x) l s).line ≡ l
-line_step (node.Number v k) l s = refl
-line_step node.Real l s = refl
-line_step (node.Letter b) l s = refl
-line_step (node.Text bs) l s = refl
-line_step (node.Variable n) l s = refl
-line_step (node.Unary op e) l s = refl
-line_step (node.Binary op a b) l s = refl
-line_step (node.Choice c a b) l s = refl
-line_step (node.Cast t e) l s = refl
-line_step (node.Call n es) l s = refl
-line_step (node.Index a b) l s = refl
-line_step (node.Member a n) l s = refl
-line_step (node.Arrow a n) l s = refl
-line_step (node.Paren e) l s = refl
-
-pub line_is : (e : Expr) → (shape e).line ≡ e.line
-line_is e = rw (shape_is e) (line_step (out-Node e.node) e.line e.second)
-
 -- above what a piece must bind to be part of the last operand
 abbrev pub edge_of : Node-F Node Expr → ℕ
 edge_of (node.Number v k) = 15

@@ -1,6 +1,6 @@
 -- What is read is spelled so, and is well-formed.
 use Rattle.std.proofs.Common.{◌≡◌, ℕ, zero, suc, ◌+◌, ◌<◌, ◌≤◌, List, [], ◌∷◌, ◌++◌, length, map, refl, subst, sym, ap, ◌∙◌, arith, Bool, true, false, ◌&&◌, cond, ltb, leb, eqb, Option, Some, None, inl, inr, ◌⊎◌, append_assoc}
-use Rattle.std.proofs.lemmas.Bool.{eqb-true, eq-eqb, ltb-false, ltb-true, leb-true, le-leb}
+use Rattle.std.proofs.lemmas.Bool.{ltb-false, ltb-true, leb-true, le-leb}
 use Rattle.std.specs.List.{flat_map}
 use Rattle.std.proofs.lemmas.List.{append-nil}
 use Rattle.cl_tree.specs.declared.kinds.UnOp.{UnOp}
@@ -20,7 +20,7 @@ use Rattle.cl_tree.specs.declared.tree.Node.TheOpen as node
 use Rattle.cl_tree.specs.declared.tree.Node.TheVariants as made
 use Rattle.cl_tree.specs.declared.tree.Node.TheVariants.{outs-Number, outs-Real, outs-Letter, outs-Text, outs-Variable, outs-Unary, outs-Binary, outs-Choice, outs-Cast, outs-Call, outs-Index, outs-Member, outs-Arrow, outs-Paren}
 use Rattle.cl_tree.specs.Words.{Word}
-use Rattle.cl_tree.specs.Spelling.{Spelling, put, put_at, put_mark, mark_at, mark_on, Fits, Reads, TypeShape, type_shape, type_name, is_empty, held_by, holder, star_lines, floating_lines, other_lines, base_on, stars_on, Shape, node_step, shape, binds, commas, all_proper, unary_mark, binary_mark, leaf}
+use Rattle.cl_tree.specs.Spelling.{Spelling, put, put_mark, mark_on, first_on, Fits, Reads, TypeShape, type_shape, type_name, is_empty, held_by, holder, star_lines, floating_lines, other_lines, base_on, stars_on, Shape, node_step, shape, binds, commas, all_proper, unary_mark, binary_mark, leaf}
 use Rattle.cl_parse_expr.specs.declared.cursor.Fixed.{Fixed}
 use Rattle.cl_parse_expr.specs.declared.cursor.Fixed.TheVariants as fixed
 use Rattle.cl_parse_expr.specs.declared.cursor.Link.{Link}
@@ -30,8 +30,9 @@ use Rattle.cl_parse_expr.specs.declared.cursor.Start.TheVariants as start
 use Rattle.cl_parse_expr.specs.Cursor.{◌>>=◌, Pieces, after, found, name_at, start_of, mark_link, link_of, pull, link_at, line_of}
 use Rattle.cl_parse_expr.specs.Types.{base_at, type_of, pointers_at, second_at}
 use Rattle.cl_parse_expr.specs.Reading.{Reader, tree, opening, close, comma, more_at, args_at, cast_from, cast_at, paren_at, start_step, head_step, head_of, grow, loop_of, expr_of, expr_at}
-use Rattle.cl_parse_expr.proofs.Shapes.{shaped, shape_made, line_is, edge_of, edge, edge_is, edge_open, IsEdge, binds_from, binds_to}
+use Rattle.cl_parse_expr.proofs.Shapes.{shaped, shape_made, edge_of, edge, edge_is, edge_open, IsEdge, binds_from, binds_to}
 use Rattle.cl_parse_expr.proofs.Marks.{some_of, some_is, and_intro, and_elim, reads_append, reads_split, found_sound, bind_some, found_ok, name_sound}
+use Rattle.cl_parse_expr.proofs.First.{begun}
 use Rattle.cl_parse_expr.proofs.TypeNames.{shape_of, base_sound, Pointed, pointers_sound, plain_is, second_line, star_fits, floating_fits, other_fits}
 
 -- how tightly the first piece binds
@@ -319,8 +320,8 @@ paren_sound E sound t is ts x e =
     let z = some_is (tree t.line t.line (made.Paren b.0.0), c.0.1) x c.2 in
     subst (λ (y : Expr × Pieces). Headed y (t ∷ ts)) z
     (built 12 t.line t.line (made.Paren b.0.0) (node.Paren b.0.0) (t ∷ ts) c.0.1 (outs-Paren b.0.0)
-    (is, (refl, tt), reads_append (shape b.0.0).spelling _ ts b.0.1 c.0.1 w.left.reads (found_sound close [] [] b.0.1 c.0.1 c.0 c.1 tt refl))
-    (and_intro _ _ (eq-eqb t.line t.line refl) w.left.proper) (omega arith) (pull_at_to c.0.1))
+    (is, (refl, (refl, tt)), reads_append (shape b.0.0).spelling _ ts b.0.1 c.0.1 w.left.reads (found_sound close [] [] b.0.1 c.0.1 c.0 c.1 tt refl))
+    w.left.proper (omega arith) (pull_at_to c.0.1))
 
 start_sound : (E : Reader) → Sound E → (t : Piece) (m : Mark) → t.what ≡ sign.Mark m → (y : Start) → start_of m ≡ y → (ts : Pieces) (x : Expr × Pieces) → start_step E t.line y ts ≡ Some x → Headed x (t ∷ ts)
 unfolding start_step
@@ -337,8 +338,8 @@ start_sound E sound t m is (start.Prefix op) q ts x e =
     let z = some_is (tree t.line t.line (made.Unary op b.0.0), b.0.1) x b.2 in
     subst (λ (y : Expr × Pieces). Headed y (t ∷ ts)) z
     (built 12 t.line t.line (made.Unary op b.0.0) (node.Unary op b.0.0) (t ∷ ts) b.0.1 (outs-Unary op b.0.0)
-    (is ∙ ap (λ (u : Mark). sign.Mark u) (prefix_mark m op q), (refl, tt), w.left.reads)
-    (and_intro _ _ (eq-eqb t.line t.line refl) (and_intro _ _ (le-leb 12 _ w.left.level) w.left.proper)) (omega arith) w.ends)
+    (is ∙ ap (λ (u : Mark). sign.Mark u) (prefix_mark m op q), (refl, (refl, tt)), w.left.reads)
+    (and_intro _ _ (le-leb 12 _ w.left.level) w.left.proper) (omega arith) w.ends)
 
 -- one piece that is an expression
 leaf_sound : (t : Piece) (s : Sign) → t.what ≡ s → (n : Node) (v : Node-F Node Expr) → out-Node n ≡ v → node_step (shaped v) t.line t.line ≡ leaf s t.line t.line → edge_of v ≡ 15 → (ts : Pieces) (x : Expr × Pieces) → some_of {A = Expr × Pieces} (tree t.line t.line n, ts) ≡ Some x → Headed x (t ∷ ts)
@@ -346,8 +347,8 @@ leaf_sound t s is n v o step high ts x e =
     let z = some_is (tree t.line t.line n, ts) x e in
     subst (λ (y : Expr × Pieces). Headed y (t ∷ ts)) z
     (built 12 t.line t.line n v (t ∷ ts) ts o
-    (subst (λ (y : Shape). Reads y.spelling (t ∷ ts) ts) (sym step) (is, (refl, tt), refl))
-    (subst (λ (y : Shape). y.proper ≡ true) (sym step) (eq-eqb t.line t.line refl))
+    (subst (λ (y : Shape). Reads y.spelling (t ∷ ts) ts) (sym step) (is, (refl, (refl, tt)), refl))
+    (subst (λ (y : Shape). y.proper ≡ true) (sym step) refl)
     (subst (λ (y : Shape). 12 ≤ y.level) (sym step) (omega arith))
     (subst (λ (y : ℕ). pull_at ts < y) (sym high) (pull_at_to ts)))
 
@@ -365,7 +366,7 @@ head_sound_step E sound t (sign.Name n) is ts x e =
           let z = some_is (tree t.line t.line (made.Call n b.0.0), b.0.1) x b.2 in
           subst (λ (y : Expr × Pieces). Headed y (t ∷ ts)) z
           (built 12 t.line t.line (made.Call n b.0.0) (node.Call n b.0.0) (t ∷ ts) b.0.1 (outs-Call n b.0.0)
-          (is, (refl, tt), found_sound opening [] _ ts b.0.1 h.0 h.1 tt a.0) (and_intro _ _ (eq-eqb t.line t.line refl) a.1) (omega arith) (pull_at_to b.0.1))
+          (is, (refl, (refl, tt)), found_sound opening [] _ ts b.0.1 h.0 h.1 tt a.0) a.1 (omega arith) (pull_at_to b.0.1))
     ]
 head_sound_step E sound t (sign.Mark m) is ts x e = start_sound E sound t m is (start_of m) refl ts x e
 head_sound_step E sound t _ is ts x e = absurd cc
@@ -401,8 +402,8 @@ grow_sound E sound k p start ts l (link.Binary op) line next t x e =
     let high : binds op ≤ (shape p).level = omega arith in
     subst (λ (y : Expr × Pieces). Left k y.0 start y.1) z
     (built k p.line line (made.Binary op p q) (node.Binary op p q) start b.0.1 (outs-Binary op p q)
-    (reads_append (shape p).spelling _ start ts b.0.1 l.reads (link_reads k ts (link.Binary op) line next b.0.1 (line ∷ []) (shape q).spelling (λ n. cc) t (refl, tt) w.left.reads))
-    (and_intro _ _ (eq-eqb p.line (shape p).line (sym (line_is p))) (and_intro _ _ (and_intro _ _ (le-leb (binds op) _ high) (le-leb (suc (binds op)) _ w.left.level)) (and_intro _ _ l.proper w.left.proper)))
+    (reads_append (first_on (p.line ∷ []) (shape p).spelling) _ start ts b.0.1 (begun (p.line ∷ []) p start ts (refl, tt) l.reads) (link_reads k ts (link.Binary op) line next b.0.1 (line ∷ []) (shape q).spelling (λ n. cc) t (refl, tt) w.left.reads))
+    (and_intro _ _ (and_intro _ _ (le-leb (binds op) _ high) (le-leb (suc (binds op)) _ w.left.level)) (and_intro _ _ l.proper w.left.proper))
     t.level w.ends)
 grow_sound E sound k p start ts l link.Choice line next t x e =
     let a = bind_some (E 1 next) (λ a. after (fixed.Mark mark.Colon) a.1 >>= λ c. E 1 c.1 >>= λ b. Some (tree p.line p.line (made.Choice p a.0 b.0), b.1)) x e in
@@ -415,9 +416,9 @@ grow_sound E sound k p start ts l link.Choice line next t x e =
     let below : 1 < edge p = pulls k ts link.Choice line next t (edge p) l.stops in
     subst (λ (y : Expr × Pieces). Left k y.0 start y.1) z
     (built k p.line p.line (made.Choice p a.0.0 b.0.0) (node.Choice p a.0.0 b.0.0) start b.0.1 (outs-Choice p a.0.0 b.0.0)
-    (reads_append (shape p).spelling _ start ts b.0.1 l.reads (link_reads k ts link.Choice line next b.0.1 [] _ (λ n. cc) t tt
+    (reads_append (first_on (p.line ∷ p.line ∷ []) (shape p).spelling) _ start ts b.0.1 (begun (p.line ∷ p.line ∷ []) p start ts (refl, (refl, tt)) l.reads) (link_reads k ts link.Choice line next b.0.1 [] _ (λ n. cc) t tt
     (reads_append (shape a.0.0).spelling _ next a.0.1 b.0.1 u.left.reads (found_sound (fixed.Mark mark.Colon) [] (shape b.0.0).spelling a.0.1 b.0.1 c.0 c.1 tt w.left.reads))))
-    (and_intro _ _ (eq-eqb p.line (shape p).line (sym (line_is p))) (and_intro _ _ (eq-eqb p.line p.line refl) (and_intro _ _ (le-leb 2 _ (g.choice below)) (and_intro _ _ l.proper (and_intro _ _ u.left.proper w.left.proper)))))
+    (and_intro _ _ (le-leb 2 _ (g.choice below)) (and_intro _ _ l.proper (and_intro _ _ u.left.proper w.left.proper)))
     t.level w.ends)
 grow_sound E sound k p start ts l link.Index line next t x e =
     let a = bind_some (E 1 next) (λ i. after (fixed.Mark mark.CloseBracket) i.1 >>= λ c. Some (tree p.line line (made.Index p i.0), c.1)) x e in
@@ -428,9 +429,9 @@ grow_sound E sound k p start ts l link.Index line next t x e =
     let below : 14 < edge p = pulls k ts link.Index line next t (edge p) l.stops in
     subst (λ (y : Expr × Pieces). Left k y.0 start y.1) z
     (built k p.line line (made.Index p a.0.0) (node.Index p a.0.0) start c.0.1 (outs-Index p a.0.0)
-    (reads_append (shape p).spelling _ start ts c.0.1 l.reads (link_reads k ts link.Index line next c.0.1 (line ∷ []) _ (λ n. cc) t (refl, tt)
+    (reads_append (first_on (p.line ∷ []) (shape p).spelling) _ start ts c.0.1 (begun (p.line ∷ []) p start ts (refl, tt) l.reads) (link_reads k ts link.Index line next c.0.1 (line ∷ []) _ (λ n. cc) t (refl, tt)
     (reads_append (shape a.0.0).spelling _ next a.0.1 c.0.1 u.left.reads (found_sound (fixed.Mark mark.CloseBracket) [] [] a.0.1 c.0.1 c.0 c.1 tt refl))))
-    (and_intro _ _ (eq-eqb p.line (shape p).line (sym (line_is p))) (and_intro _ _ (le-leb 14 _ (g.after below)) (and_intro _ _ l.proper u.left.proper)))
+    (and_intro _ _ (le-leb 14 _ (g.after below)) (and_intro _ _ l.proper u.left.proper))
     t.level (pull_at_to c.0.1))
 grow_sound E sound k p start ts l link.Member line next t x e =
     let n = bind_some (name_at next) (λ n. Some (tree p.line p.line (made.Member p n.0), n.2)) x e in
@@ -439,8 +440,8 @@ grow_sound E sound k p start ts l link.Member line next t x e =
     let below : 14 < edge p = pulls k ts link.Member line next t (edge p) l.stops in
     subst (λ (y : Expr × Pieces). Left k y.0 start y.1) z
     (built k p.line p.line (made.Member p n.0.0) (node.Member p n.0.0) start n.0.2 (outs-Member p n.0.0)
-    (reads_append (shape p).spelling _ start ts n.0.2 l.reads (link_reads k ts link.Member line next n.0.2 [] (put (sign.Name n.0.0) []) (λ n. cc) t tt (name_sound [] [] next n.0.2 n.0 n.1 tt refl)))
-    (and_intro _ _ (eq-eqb p.line (shape p).line (sym (line_is p))) (and_intro _ _ (eq-eqb p.line p.line refl) (and_intro _ _ (le-leb 14 _ (g.after below)) l.proper)))
+    (reads_append (first_on (p.line ∷ p.line ∷ []) (shape p).spelling) _ start ts n.0.2 (begun (p.line ∷ p.line ∷ []) p start ts (refl, (refl, tt)) l.reads) (link_reads k ts link.Member line next n.0.2 [] (put (sign.Name n.0.0) []) (λ n. cc) t tt (name_sound [] [] next n.0.2 n.0 n.1 tt refl)))
+    (and_intro _ _ (le-leb 14 _ (g.after below)) l.proper)
     t.level (pull_at_to n.0.2))
 grow_sound E sound k p start ts l link.Arrow line next t x e =
     let n = bind_some (name_at next) (λ n. Some (tree p.line line (made.Arrow p n.0), n.2)) x e in
@@ -449,8 +450,8 @@ grow_sound E sound k p start ts l link.Arrow line next t x e =
     let below : 14 < edge p = pulls k ts link.Arrow line next t (edge p) l.stops in
     subst (λ (y : Expr × Pieces). Left k y.0 start y.1) z
     (built k p.line line (made.Arrow p n.0.0) (node.Arrow p n.0.0) start n.0.2 (outs-Arrow p n.0.0)
-    (reads_append (shape p).spelling _ start ts n.0.2 l.reads (link_reads k ts link.Arrow line next n.0.2 (line ∷ []) (put (sign.Name n.0.0) []) (λ n. cc) t (refl, tt) (name_sound [] [] next n.0.2 n.0 n.1 tt refl)))
-    (and_intro _ _ (eq-eqb p.line (shape p).line (sym (line_is p))) (and_intro _ _ (le-leb 14 _ (g.after below)) l.proper))
+    (reads_append (first_on (p.line ∷ []) (shape p).spelling) _ start ts n.0.2 (begun (p.line ∷ []) p start ts (refl, tt) l.reads) (link_reads k ts link.Arrow line next n.0.2 (line ∷ []) (put (sign.Name n.0.0) []) (λ n. cc) t (refl, tt) (name_sound [] [] next n.0.2 n.0 n.1 tt refl)))
+    (and_intro _ _ (le-leb 14 _ (g.after below)) l.proper)
     t.level (pull_at_to n.0.2))
 
 loop_sound : (E : Reader) → Sound E → (m k : ℕ) (p : Expr) (start ts : Pieces) → 1 ≤ k → Left k p start ts → (x : Expr × Pieces) → loop_of E m k p ts ≡ Some x → Whole k x.0 start x.1

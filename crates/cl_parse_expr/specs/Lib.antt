@@ -1,4 +1,3 @@
 pub mod Cursor
 pub mod Types
 pub mod Reading
-pub mod Whole

@@ -5,4 +5,3 @@ pub mod cursor;
 pub mod expr;
 pub mod stop;
 pub mod types;
-pub mod whole;

@@ -1,5 +1,5 @@
 -- All of the pieces as one item.
-use Rattle.std.proofs.Common.{◌≡◌, ℕ, suc, ◌^◌, ◌<◌, ◌≤◌, [], ◌∷◌, length, refl, sym, ap, subst, ◌∙◌, arith, Bool, true, false, cond, Option, Some, None, Result, Ok, Err}
+use Rattle.std.proofs.Common.{◌≡◌, ◌⊎◌, inl, inr, ℕ, suc, ◌^◌, ◌<◌, ◌≤◌, [], ◌∷◌, length, refl, sym, ap, subst, ◌∙◌, arith, Bool, true, false, cond, Option, Some, None, Result, Ok, Err}
 use Rattle.std.specs.Prelude.{MatchResult, nat_lt}
 use Rattle.std.proofs.lemmas.Bool.{ltb-true, lt-ltb}
 use Rattle.cl_tree.specs.declared.kinds.IntKind.{IntKind}
@@ -10,7 +10,7 @@ use Rattle.cl_tree.specs.declared.tree.Item.{Item}
 use Rattle.cl_tree.specs.Words.{is_literal, comes}
 use Rattle.cl_tree.specs.Spelling.{Want, is, size, Meets, Spelling, Reads, want_comes, all_come}
 use Rattle.cl_tree.specs.Items.{item_spelling, is_item, is_well_formed}
-use Rattle.cl_tree.specs.Reading.{IsItem}
+use Rattle.cl_tree.specs.Reading.{IsItem, IsUnread}
 use Rattle.cl_parse_expr.specs.declared.stop.Stop.{Stop}
 use Rattle.cl_parse_expr.specs.declared.stop.Stop.TheVariants.{Memory, Unread}
 use Rattle.cl_parse_expr.specs.Cursor.{◌>>=◌, Pieces, Gives}
@@ -98,6 +98,14 @@ item_whole n ts x lt h =
     let c : pieces_come ts ≡ true = sym (come_same (item_spelling x) ts h.reads) ∙ f.1 in
     let e = item_read (listed_of (stmt_at n (expr_at n) (init_at n (expr_at n))) (init_at n (expr_at n))) n listed (init_at n (expr_at n)) inits x ts [] lt (record { reads = h.reads; proper = f.0 }) in
     rw (c, e) refl
+
+-- so it is decided whether they are an item
+pub item_or_none : (ts : Pieces) → ((i : Item) × IsItem ts i) ⊎ IsUnread ts
+item_or_none ts = by (whole_item (suc (length ts)) ts) refl
+  where
+    by : (o : Option Item) → whole_item (suc (length ts)) ts ≡ o → ((i : Item) × IsItem ts i) ⊎ IsUnread ts
+    by (Some i) e = inl (i, item_found (suc (length ts)) ts i e)
+    by None e = inr (λ i h. let f = item_whole (suc (length ts)) ts i (omega arith) h in cc)
 
 pub item_one : (ts : Pieces) (x y : Item) → IsItem ts x → IsItem ts y → x ≡ y
 item_one ts x y h k = some_is x y (sym (item_whole (suc (length ts)) ts x (omega arith) h) ∙ item_whole (suc (length ts)) ts y (omega arith) k)

@@ -3,7 +3,6 @@ pub mod ItemTurns
 pub mod Declared
 pub mod Stated
 pub mod Restated
-pub mod All
 pub mod Itemised
 pub mod Reitemised
 pub mod AllItems

@@ -1,6 +1,6 @@
 -- Statements: what is spelled so is read.
 use Rattle.std.proofs.Common.{◌≡◌, ℕ, zero, suc, ◌<◌, ◌≤◌, List, [], ◌∷◌, ◌++◌, length, map, refl, subst, sym, ap, ◌∙◌, arith, Bool, true, false, not, cond, Option, Some, None, inl, inr, ◌⊎◌, append_assoc}
-use Rattle.std.proofs.lemmas.Bool.{eqb-true, leb-true}
+use Rattle.std.proofs.lemmas.Bool.{leb-true}
 use Rattle.std.specs.List.{flat_map}
 use Rattle.std.specs.Option.{option_map}
 use Rattle.std.proofs.lemmas.List.{append-nil}
@@ -26,7 +26,7 @@ use Rattle.cl_tree.specs.declared.tree.Act.{Act, Act-F, out-Act, roll-Act}
 use Rattle.cl_tree.specs.declared.tree.Act.TheOpen as act
 use Rattle.cl_tree.specs.declared.tree.Act.TheVariants as made
 use Rattle.cl_tree.specs.declared.tree.Act.TheVariants.{rolls-Empty, rolls-Block, rolls-Set, rolls-Bump, rolls-Call, rolls-If, rolls-While, rolls-DoWhile, rolls-For, rolls-Return, rolls-Break, rolls-Continue, rolls-Declare, rolls-Cle}
-use Rattle.cl_tree.specs.Spelling.{Spelling, put_on, put_at, put, put_mark, put_key, mark_at, mark_on, base_on, is_void, Reads, Shape, node_step, shape}
+use Rattle.cl_tree.specs.Spelling.{Spelling, put_on, put, put_mark, put_key, mark_at, mark_on, first_on, base_on, is_void, Reads, Shape, node_step, shape}
 use Rattle.cl_tree.specs.Statements.{Form, simple, declares, pragma, other, StmtShape, act_step, stmt_shape, assign_mark, assigns, bump_mark, is_call, call_node, common_base, is_statement, is_simple, is_head, is_part, all_stmts, statements, head_first, head_test, head_next, is_first, is_test, is_next, declared, declaration, is_declaration, are_names}
 use Rattle.cl_parse_expr.specs.declared.cursor.Fixed.{Fixed}
 use Rattle.cl_parse_expr.specs.declared.cursor.Fixed.TheVariants as fixed
@@ -36,7 +36,8 @@ use Rattle.cl_parse_expr.specs.Cursor.{Pieces, after, same_mark, same_key, fixed
 use Rattle.cl_parse_expr.specs.Reading.{Reader, opening, close, comma}
 use Rattle.cl_parse_expr.proofs.Shapes.{shape_is, shaped, binds_to}
 use Rattle.cl_parse_expr.proofs.Marks.{some_of, and_elim, reads_split, reads_length, after_reads, is_fixed_true, no_piece, no_pieces, not_other}
-use Rattle.cl_parse_expr.proofs.Complete.{Complete, Ends, IsEnd, sign_ends, any_read, before_sign, starts_not, some_pair, close_ends, IsFirst, expr_opens}
+use Rattle.cl_parse_expr.proofs.Complete.{Complete, Ends, IsEnd, sign_ends, any_read, before_sign, starts_not, some_pair, close_ends, expr_opens}
+use Rattle.cl_parse_expr.proofs.First.{IsFirst, Led, led}
 use Rattle.cl_parse_stmt.specs.declared.simple.Tail.{Tail}
 use Rattle.cl_parse_stmt.specs.declared.simple.Tail.TheVariants as tail
 use Rattle.cl_parse_stmt.specs.declared.stmt.Head.{Head}
@@ -212,13 +213,13 @@ bump_first false lines ms ts rest x f h = not_other (sign.Mark mark.MinusMinus) 
 
 simple_step : (E : Reader) (n : ℕ) → Complete E n → (p : Stmt) (x : Act-F Act Stmt) → out-Act p.node ≡ x → (act_step (stmt_shaped x) p.line p.second).form ≡ simple → (act_step (stmt_shaped x) p.line p.second).proper ≡ true → (ms : Spelling) (ts rest : Pieces) → length ts < n → Reads ((act_step (stmt_shaped x) p.line p.second).bare ++ ms) ts rest → Stopping ms rest → LineRead (simple_at E) p ms ts rest
 simple_step E n all p (act.Set op a b) o f proper ms ts rest lt h stop =
-    let q = and_elim _ _ proper in
-    let k = and_elim _ _ q.1 in
+    let k = and_elim _ _ proper in
     let v = and_elim _ _ k.1 in
     let u = and_elim _ _ v.1 in
     let high : 13 ≤ (shape a).level = leb-true _ _ v.0 in
-    let r = reads_split (shape a).spelling (mark_at p.second (assign_mark op) ((shape b).spelling ++ ms)) ts rest
-    (subst (λ (y : Spelling). Reads y ts rest) (append_assoc (shape a).spelling (mark_at p.second (assign_mark op) (shape b).spelling) ms) h) in
+    let d = led (p.line ∷ []) a (mark_at p.second (assign_mark op) ((shape b).spelling ++ ms)) ts rest
+    (subst (λ (y : Spelling). Reads y ts rest) (append_assoc (first_on (p.line ∷ []) (shape a).spelling) (mark_at p.second (assign_mark op) (shape b).spelling) ms) h) in
+    let r = reads_split (shape a).spelling (mark_at p.second (assign_mark op) ((shape b).spelling ++ ms)) ts rest d.reads in
     let t = tail_reads (assign_mark op) (tail.Assign op) p.second ((shape b).spelling ++ ms) r.0 rest (tail_assign op k.0) r.2 in
     let w = reads_split (shape b).spelling ms t.next rest t.reads in
     let long = t.less in
@@ -229,15 +230,14 @@ simple_step E n all p (act.Set op a b) o f proper ms ts rest lt h stop =
     let value = any_read E n all b t.next w.0 (omega arith) u.1 w.1 stopped.closes.ends in
     record {
       next = w.0;
-      found = from_expr E a ts r.0 _ r.1 place (assigned_found E op a b p.line p.second r.0 w.0 t.next t.line k.0 (unary_back a high) (eqb-true _ _ q.0) t.found t.at_line value) ∙ by_stmt p _ w.0 (stmt_is p _ _ o (rolls-Set op a b));
+      found = from_expr E a ts r.0 _ r.1 place (assigned_found E op a b p.line p.second r.0 w.0 t.next t.line k.0 (unary_back a high) (sym d.fits.0) t.found t.at_line value) ∙ by_stmt p _ w.0 (stmt_is p _ _ o (rolls-Set op a b));
       reads = w.2;
       less = omega arith;
     }
 simple_step E n all p (act.Bump up true a) o f proper ms ts rest lt h stop =
-    let q = and_elim _ _ proper in
-    let v = and_elim _ _ q.1 in
+    let v = and_elim _ _ proper in
     let high : 13 ≤ (shape a).level = leb-true _ _ v.0 in
-    let t = after_reads (fixed.Mark (bump_mark up)) (p.line ∷ []) ((shape a).spelling ++ ms) ts rest h in
+    let t = after_reads (fixed.Mark (bump_mark up)) (p.line ∷ p.second ∷ []) ((shape a).spelling ++ ms) ts rest h in
     let w = reads_split (shape a).spelling ms t.next rest t.reads in
     let long = t.less in
     let tiny = reads_length (shape a).spelling t.next w.0 w.1 in
@@ -245,37 +245,36 @@ simple_step E n all p (act.Bump up true a) o f proper ms ts rest lt h stop =
     let place = place_read E n all a t.next w.0 (omega arith) v.1 (omega arith) w.1 stopped.closes.ends in
     record {
       next = w.0;
-      found = prefix_found E up a p.line p.second ts t.next w.0 t.line t.found (bump_first up (p.line ∷ []) ((shape a).spelling ++ ms) ts rest (t.line, t.next) t.found h) t.fits.0 (eqb-true _ _ q.0) (unary_back a high) place ∙ by_stmt p _ w.0 (stmt_is p _ _ o (rolls-Bump up true a));
+      found = prefix_found E up a p.line p.second ts t.next w.0 t.line t.found (bump_first up (p.line ∷ p.second ∷ []) ((shape a).spelling ++ ms) ts rest (t.line, t.next) t.found h) t.fits.0 (sym t.fits.1.0 ∙ t.fits.0) (unary_back a high) place ∙ by_stmt p _ w.0 (stmt_is p _ _ o (rolls-Bump up true a));
       reads = w.2;
       less = omega arith;
     }
 simple_step E n all p (act.Bump up false a) o f proper ms ts rest lt h stop =
-    let q = and_elim _ _ proper in
-    let v = and_elim _ _ q.1 in
+    let v = and_elim _ _ proper in
     let high : 13 ≤ (shape a).level = leb-true _ _ v.0 in
-    let r = reads_split (shape a).spelling (mark_at p.second (bump_mark up) ms) ts rest
-    (subst (λ (y : Spelling). Reads y ts rest) (append_assoc (shape a).spelling (mark_at p.second (bump_mark up) []) ms) h) in
+    let d = led (p.line ∷ []) a (mark_at p.second (bump_mark up) ms) ts rest
+    (subst (λ (y : Spelling). Reads y ts rest) (append_assoc (first_on (p.line ∷ []) (shape a).spelling) (mark_at p.second (bump_mark up) []) ms) h) in
+    let r = reads_split (shape a).spelling (mark_at p.second (bump_mark up) ms) ts rest d.reads in
     let t = tail_reads (bump_mark up) (tail.Bump up) p.second ms r.0 rest (tail_bump up) r.2 in
     let long = t.less in
     let short = reads_length (shape a).spelling ts r.0 r.1 in
     let place = place_read E n all a ts r.0 lt v.1 (omega arith) r.1 (sign_ends (sign.Mark (bump_mark up)) (p.second ∷ []) ms r.0 rest (bump_ends up) r.2) in
     record {
       next = t.next;
-      found = from_expr E a ts r.0 _ r.1 place (bumped_found E up a p.line p.second r.0 t.next t.line (unary_back a high) (eqb-true _ _ q.0) t.found t.at_line) ∙ by_stmt p _ t.next (stmt_is p _ _ o (rolls-Bump up false a));
+      found = from_expr E a ts r.0 _ r.1 place (bumped_found E up a p.line p.second r.0 t.next t.line (unary_back a high) (sym d.fits.0) t.found t.at_line) ∙ by_stmt p _ t.next (stmt_is p _ _ o (rolls-Bump up false a));
       reads = t.reads;
       less = omega arith;
     }
 simple_step E n all p (act.Call a) o f proper ms ts rest lt h stop =
-    let q = and_elim _ _ proper in
-    let v = and_elim _ _ q.1 in
-    let u = and_elim _ _ v.1 in
-    let w = reads_split (shape a).spelling ms ts rest h in
+    let u = and_elim _ _ proper in
+    let d = led (p.line ∷ p.second ∷ []) a ms ts rest h in
+    let w = reads_split (shape a).spelling ms ts rest d.reads in
     let tiny = reads_length (shape a).spelling ts w.0 w.1 in
     let stopped = stop w.0 w.2 in
     let place = place_read E n all a ts w.0 lt u.1 (call_level a u.0) w.1 stopped.closes.ends in
     record {
       next = w.0;
-      found = from_expr E a ts w.0 _ w.1 place (call_found E a p.line p.second w.0 u.0 (eqb-true _ _ q.0) (eqb-true _ _ v.0) stopped.tail) ∙ by_stmt p _ w.0 (stmt_is p _ _ o (rolls-Call a));
+      found = from_expr E a ts w.0 _ w.1 place (call_found E a p.line p.second w.0 u.0 (sym d.fits.0) (sym d.fits.1.0 ∙ d.fits.0) stopped.tail) ∙ by_stmt p _ w.0 (stmt_is p _ _ o (rolls-Call a));
       reads = w.2;
       less = omega arith;
     }
@@ -310,30 +309,32 @@ static_none (base.Kind k) lines ms ts rest h = not_other (sign.Kind k) static_ke
 static_none base.Real lines ms ts rest h = not_other sign.Real static_key lines ms ts rest refl h
 static_none (base.Tag n) lines ms ts rest h = not_other (sign.Key key.Struct) static_key lines (put (sign.Name n) ms) ts rest refl h
 
-declare_static : (I : InitReader) (n : ℕ) → InitComplete I n → (l : ℕ) (ds : List Declarator) (ms : Spelling) (ts rest : Pieces) → length ts < n → are_names true ds ≡ true → Follows ms rest → Reads (declared (l ∷ []) true ds ++ ms) ts rest → LineRead (declare_at I) (stmt l l (made.Declare (declared_as true ds))) ms ts rest
+declare_static : (I : InitReader) (n : ℕ) → InitComplete I n → (l c : ℕ) (ds : List Declarator) (ms : Spelling) (ts rest : Pieces) → length ts < n → are_names true ds ≡ true → Follows ms rest → Reads (declared (l ∷ c ∷ []) true ds ++ ms) ts rest → LineRead (declare_at I) (stmt l c (made.Declare (declared_as true ds))) ms ts rest
 unfolding declare_at declaration_from
-declare_static I n all l ds ms ts rest lt p k h =
-    let s = static_read I n all (l ∷ []) ds ms ts rest lt p k h in
+declare_static I n all l c ds ms ts rest lt p k h =
+    let s = static_read I n all (l ∷ c ∷ []) ds ms ts rest lt p k h in
     let d = s.declared in
     let less = d.less in
     let more = s.less in
-    record { next = d.next; found = rw (s.found, d.base, d.names, d.fits.0) refl; reads = d.reads; less = omega arith }
+    let q : c ≡ l = sym d.fits.1.0 ∙ d.fits.0 in
+    record { next = d.next; found = rw (s.found, d.base, d.names, d.fits.0) refl ∙ ap (λ (y : ℕ). some_of {A = Stmt × Pieces} (stmt l y (made.Declare (declared_as true ds)), d.next)) (sym q); reads = d.reads; less = omega arith }
 
-declare_plain : (I : InitReader) (n : ℕ) → InitComplete I n → (l : ℕ) (ds : List Declarator) (ms : Spelling) (ts rest : Pieces) → length ts < n → are_names true ds ≡ true → Follows ms rest → Reads (declared (l ∷ []) false ds ++ ms) ts rest → LineRead (declare_at I) (stmt l l (made.Declare (declared_as false ds))) ms ts rest
+declare_plain : (I : InitReader) (n : ℕ) → InitComplete I n → (l c : ℕ) (ds : List Declarator) (ms : Spelling) (ts rest : Pieces) → length ts < n → are_names true ds ≡ true → Follows ms rest → Reads (declared (l ∷ c ∷ []) false ds ++ ms) ts rest → LineRead (declare_at I) (stmt l c (made.Declare (declared_as false ds))) ms ts rest
 unfolding declare_at declaration_from
-declare_plain I n all l ds ms ts rest lt p k h =
-    let d = plain_read I n all (l ∷ []) ds ms ts rest lt p k h in
+declare_plain I n all l c ds ms ts rest lt p k h =
+    let d = plain_read I n all (l ∷ c ∷ []) ds ms ts rest lt p k h in
     let less = d.less in
     let none = static_none (common_base ds) _ _ ts rest (subst (λ (y : Spelling). Reads y ts rest) (base_append _ (common_base ds) _ ms) h) in
-    record { next = d.next; found = rw (none, d.base, d.names, d.fits.0) refl; reads = d.reads; less = omega arith }
+    let q : c ≡ l = sym d.fits.1.0 ∙ d.fits.0 in
+    record { next = d.next; found = rw (none, d.base, d.names, d.fits.0) refl ∙ ap (λ (y : ℕ). some_of {A = Stmt × Pieces} (stmt l y (made.Declare (declared_as false ds)), d.next)) (sym q); reads = d.reads; less = omega arith }
 
-declare_step : (I : InitReader) (n : ℕ) → InitComplete I n → (b : Bool) (l : ℕ) (ds : List Declarator) (ms : Spelling) (ts rest : Pieces) → length ts < n → are_names true ds ≡ true → Follows ms rest → Reads (declared (l ∷ []) b ds ++ ms) ts rest → LineRead (declare_at I) (stmt l l (made.Declare (declared_as b ds))) ms ts rest
-declare_step I n all true l ds ms ts rest lt p k h = declare_static I n all l ds ms ts rest lt p k h
-declare_step I n all false l ds ms ts rest lt p k h = declare_plain I n all l ds ms ts rest lt p k h
+declare_step : (I : InitReader) (n : ℕ) → InitComplete I n → (b : Bool) (l c : ℕ) (ds : List Declarator) (ms : Spelling) (ts rest : Pieces) → length ts < n → are_names true ds ≡ true → Follows ms rest → Reads (declared (l ∷ c ∷ []) b ds ++ ms) ts rest → LineRead (declare_at I) (stmt l c (made.Declare (declared_as b ds))) ms ts rest
+declare_step I n all true l c ds ms ts rest lt p k h = declare_static I n all l c ds ms ts rest lt p k h
+declare_step I n all false l c ds ms ts rest lt p k h = declare_plain I n all l c ds ms ts rest lt p k h
 
-declaration_open : (l : ℕ) (d : Declaration) → declaration (l ∷ []) d ≡ declared (l ∷ []) d.is_static d.names
+declaration_open : (l c : ℕ) (d : Declaration) → declaration (l ∷ c ∷ []) d ≡ declared (l ∷ c ∷ []) d.is_static d.names
 unfolding declaration
-declaration_open l d = refl
+declaration_open l c d = refl
 
 declaration_names : (d : Declaration) → is_declaration d ≡ true → are_names true d.names ≡ true
 unfolding is_declaration
@@ -343,11 +344,10 @@ declaration_names d h = h
 pub declare_read : (I : InitReader) (n : ℕ) → InitComplete I n → (p : Stmt) (d : Declaration) → out-Act p.node ≡ act.Declare d → (stmt_shape p).proper ≡ true → (ms : Spelling) (ts rest : Pieces) → length ts < n → Follows ms rest → Reads ((stmt_shape p).bare ++ ms) ts rest → LineRead (declare_at I) p ms ts rest
 declare_read I n all p d o proper ms ts rest lt k h =
     let e = stmt_open p (act.Declare d) o in
-    let q = and_elim _ _ (subst (λ (y : StmtShape). y.proper ≡ true) e proper) in
-    let r : Reads (declared (p.line ∷ []) d.is_static d.names ++ ms) ts rest = subst (λ (y : Spelling). Reads (y ++ ms) ts rest) (declaration_open p.line d) (subst (λ (y : StmtShape). Reads (y.bare ++ ms) ts rest) e h) in
-    let l = declare_step I n all d.is_static p.line d.names ms ts rest lt (declaration_names d q.1) k r in
-    let same : p.second ≡ p.line = eqb-true _ _ q.0 in
-    let is : stmt p.line p.line (made.Declare d) ≡ p = ap (λ (y : ℕ). stmt p.line y (made.Declare d)) (sym same) ∙ stmt_is p _ _ o (rolls-Declare d) in
+    let q = subst (λ (y : StmtShape). y.proper ≡ true) e proper in
+    let r : Reads (declared (p.line ∷ p.second ∷ []) d.is_static d.names ++ ms) ts rest = subst (λ (y : Spelling). Reads (y ++ ms) ts rest) (declaration_open p.line p.second d) (subst (λ (y : StmtShape). Reads (y.bare ++ ms) ts rest) e h) in
+    let l = declare_step I n all d.is_static p.line p.second d.names ms ts rest lt (declaration_names d q) k r in
+    let is : stmt p.line p.second (made.Declare d) ≡ p = stmt_is p _ _ o (rolls-Declare d) in
     record { next = l.next; found = l.found ∙ ap (λ (y : Stmt). some_of {A = Stmt × Pieces} (y, l.next)) is; reads = l.reads; less = l.less }
 
 -- ---- the first piece of a statement
@@ -418,6 +418,9 @@ expr_front P f e ms ts rest h =
     let o = expr_opens e ts r.0 r.1 in
     record { piece = o.piece; next = o.next; is = o.is; holds = f o.piece.what o.first }
 
+led_front : (P : Sign → Type 0) → ((s : Sign) → IsFirst s → P s) → (lines : List ℕ) (e : Expr) (ms : Spelling) (ts rest : Pieces) → Reads (first_on lines (shape e).spelling ++ ms) ts rest → Front P ts
+led_front P f lines e ms ts rest h = let d = led lines e ms ts rest h in expr_front P f e ms ts rest d.reads
+
 semicolon_first : PartFirst (sign.Mark mark.Semicolon)
 unfolding same_mark
 semicolon_first = mark_first mark.Semicolon refl
@@ -463,23 +466,23 @@ unfolding same_key
 continue_first = key_first key.Continue refl refl
 
 part_front : (x : Act-F Act Stmt) (l c : ℕ) (ts rest : Pieces) → is_statement (act_step (stmt_shaped x) l c).form ≡ true → Reads (act_step (stmt_shaped x) l c).spelling ts rest → Front PartFirst ts
-part_front act.Empty l c ts rest f h = front_of PartFirst (sign.Mark mark.Semicolon) (l ∷ []) [] ts rest semicolon_first h
-part_front (act.Block ss) l c ts rest f h = front_of PartFirst (sign.Mark mark.OpenBrace) (l ∷ []) (statements (map stmt_shape ss)) ts rest brace_first h
-part_front (act.Set op a b) l c ts rest f h = expr_front PartFirst expr_first a _ ts rest (subst (λ (y : Spelling). Reads y ts rest) (append_assoc (shape a).spelling (mark_at c (assign_mark op) (shape b).spelling) (put_mark mark.Semicolon [])) h)
-part_front (act.Bump up true a) l c ts rest f h = front_of PartFirst (sign.Mark (bump_mark up)) (l ∷ []) ((shape a).spelling ++ put_mark mark.Semicolon []) ts rest (bump_first_piece up) h
-part_front (act.Bump up false a) l c ts rest f h = expr_front PartFirst expr_first a _ ts rest (subst (λ (y : Spelling). Reads y ts rest) (append_assoc (shape a).spelling (mark_at c (bump_mark up) []) (put_mark mark.Semicolon [])) h)
-part_front (act.Call a) l c ts rest f h = expr_front PartFirst expr_first a _ ts rest h
-part_front (act.If t s None) l c ts rest f h = front_of PartFirst (sign.Key key.If) (l ∷ []) (put_mark mark.OpenParen ((shape t).spelling ++ put_mark mark.CloseParen (stmt_shape s).spelling)) ts rest if_first h
-part_front (act.If t s (Some u)) l c ts rest f h = front_of PartFirst (sign.Key key.If) (l ∷ []) (put_mark mark.OpenParen ((shape t).spelling ++ put_mark mark.CloseParen ((stmt_shape s).spelling ++ put_key key.Else (stmt_shape u).spelling))) ts rest if_first h
-part_front (act.While t s) l c ts rest f h = front_of PartFirst (sign.Key key.While) (l ∷ []) (put_mark mark.OpenParen ((shape t).spelling ++ put_mark mark.CloseParen (stmt_shape s).spelling)) ts rest while_first h
-part_front (act.DoWhile s t) l c ts rest f h = front_of PartFirst (sign.Key key.Do) (l ∷ []) ((stmt_shape s).spelling ++ put_key key.While (put_mark mark.OpenParen ((shape t).spelling ++ put_mark mark.CloseParen (put_mark mark.Semicolon [])))) ts rest do_first h
+part_front act.Empty l c ts rest f h = front_of PartFirst (sign.Mark mark.Semicolon) (l ∷ c ∷ []) [] ts rest semicolon_first h
+part_front (act.Block ss) l c ts rest f h = front_of PartFirst (sign.Mark mark.OpenBrace) (l ∷ c ∷ []) (statements (map stmt_shape ss)) ts rest brace_first h
+part_front (act.Set op a b) l c ts rest f h = led_front PartFirst expr_first (l ∷ []) a _ ts rest (subst (λ (y : Spelling). Reads y ts rest) (append_assoc (first_on (l ∷ []) (shape a).spelling) (mark_at c (assign_mark op) (shape b).spelling) (put_mark mark.Semicolon [])) h)
+part_front (act.Bump up true a) l c ts rest f h = front_of PartFirst (sign.Mark (bump_mark up)) (l ∷ c ∷ []) ((shape a).spelling ++ put_mark mark.Semicolon []) ts rest (bump_first_piece up) h
+part_front (act.Bump up false a) l c ts rest f h = led_front PartFirst expr_first (l ∷ []) a _ ts rest (subst (λ (y : Spelling). Reads y ts rest) (append_assoc (first_on (l ∷ []) (shape a).spelling) (mark_at c (bump_mark up) []) (put_mark mark.Semicolon [])) h)
+part_front (act.Call a) l c ts rest f h = led_front PartFirst expr_first (l ∷ c ∷ []) a _ ts rest h
+part_front (act.If t s None) l c ts rest f h = front_of PartFirst (sign.Key key.If) (l ∷ c ∷ []) (put_mark mark.OpenParen ((shape t).spelling ++ put_mark mark.CloseParen (stmt_shape s).spelling)) ts rest if_first h
+part_front (act.If t s (Some u)) l c ts rest f h = front_of PartFirst (sign.Key key.If) (l ∷ c ∷ []) (put_mark mark.OpenParen ((shape t).spelling ++ put_mark mark.CloseParen ((stmt_shape s).spelling ++ put_key key.Else (stmt_shape u).spelling))) ts rest if_first h
+part_front (act.While t s) l c ts rest f h = front_of PartFirst (sign.Key key.While) (l ∷ c ∷ []) (put_mark mark.OpenParen ((shape t).spelling ++ put_mark mark.CloseParen (stmt_shape s).spelling)) ts rest while_first h
+part_front (act.DoWhile s t) l c ts rest f h = front_of PartFirst (sign.Key key.Do) (l ∷ c ∷ []) ((stmt_shape s).spelling ++ put_key key.While (put_mark mark.OpenParen ((shape t).spelling ++ put_mark mark.CloseParen (put_mark mark.Semicolon [])))) ts rest do_first h
 part_front (act.For a b d s) l c ts rest f h =
-    front_of PartFirst (sign.Key key.For) (l ∷ []) (put_mark mark.OpenParen (head_first (option_map stmt_shape a) ++ (head_test b ++ put_mark mark.Semicolon (head_next (option_map stmt_shape d) ++ put_mark mark.CloseParen (stmt_shape s).spelling)))) ts rest for_first
+    front_of PartFirst (sign.Key key.For) (l ∷ c ∷ []) (put_mark mark.OpenParen (head_first (option_map stmt_shape a) ++ (head_test b ++ put_mark mark.Semicolon (head_next (option_map stmt_shape d) ++ put_mark mark.CloseParen (stmt_shape s).spelling)))) ts rest for_first
     (subst (λ (y : StmtShape). Reads y.spelling ts rest) (for_is a b d s l c) h)
-part_front (act.Return None) l c ts rest f h = front_of PartFirst (sign.Key key.Return) (l ∷ []) (put_mark mark.Semicolon []) ts rest return_first h
-part_front (act.Return (Some e)) l c ts rest f h = front_of PartFirst (sign.Key key.Return) (l ∷ []) ((shape e).spelling ++ put_mark mark.Semicolon []) ts rest return_first h
-part_front act.Break l c ts rest f h = front_of PartFirst (sign.Key key.Break) (l ∷ []) (put_mark mark.Semicolon []) ts rest break_first h
-part_front act.Continue l c ts rest f h = front_of PartFirst (sign.Key key.Continue) (l ∷ []) (put_mark mark.Semicolon []) ts rest continue_first h
+part_front (act.Return None) l c ts rest f h = front_of PartFirst (sign.Key key.Return) (l ∷ c ∷ []) (put_mark mark.Semicolon []) ts rest return_first h
+part_front (act.Return (Some e)) l c ts rest f h = front_of PartFirst (sign.Key key.Return) (l ∷ c ∷ []) ((shape e).spelling ++ put_mark mark.Semicolon []) ts rest return_first h
+part_front act.Break l c ts rest f h = front_of PartFirst (sign.Key key.Break) (l ∷ c ∷ []) (put_mark mark.Semicolon []) ts rest break_first h
+part_front act.Continue l c ts rest f h = front_of PartFirst (sign.Key key.Continue) (l ∷ c ∷ []) (put_mark mark.Semicolon []) ts rest continue_first h
 part_front (act.Declare d) l c ts rest f h = absurd cc
 part_front (act.Cle p) l c ts rest f h = absurd cc
 
@@ -536,13 +539,13 @@ part_any p x o ts rest f w =
 listed_front : (p : Stmt) (x : Act-F Act Stmt) → out-Act p.node ≡ x → (ts rest : Pieces) → Stated p ts rest → Front AnyFirst ts
 listed_front p (act.Declare d) o ts rest w =
     let e = stmt_open p (act.Declare d) o in
-    let q = and_elim _ _ (subst (λ (y : StmtShape). y.proper ≡ true) e w.proper) in
-    let r : Reads (declared (p.line ∷ []) d.is_static d.names ++ put_mark mark.Semicolon []) ts rest = subst (λ (y : Spelling). Reads (y ++ put_mark mark.Semicolon []) ts rest) (declaration_open p.line d) (subst (λ (y : StmtShape). Reads y.spelling ts rest) e w.reads) in
-    let f = declared_front d.is_static (p.line ∷ []) d.names (put_mark mark.Semicolon []) ts rest (declaration_names d q.1) r in
+    let q = subst (λ (y : StmtShape). y.proper ≡ true) e w.proper in
+    let r : Reads (declared (p.line ∷ p.second ∷ []) d.is_static d.names ++ put_mark mark.Semicolon []) ts rest = subst (λ (y : Spelling). Reads (y ++ put_mark mark.Semicolon []) ts rest) (declaration_open p.line p.second d) (subst (λ (y : StmtShape). Reads y.spelling ts rest) e w.reads) in
+    let f = declared_front d.is_static (p.line ∷ p.second ∷ []) d.names (put_mark mark.Semicolon []) ts rest (declaration_names d q) r in
     let h = f.holds in
     record { piece = f.piece; next = f.next; is = f.is; holds = h.any }
 listed_front p (act.Cle g) o ts rest w =
-    front_of AnyFirst (sign.Cle g) (p.line ∷ []) [] ts rest (record { brace = refl; otherwise = refl }) (subst (λ (y : StmtShape). Reads y.spelling ts rest) (stmt_open p (act.Cle g) o) w.reads)
+    front_of AnyFirst (sign.Cle g) (p.line ∷ p.second ∷ []) [] ts rest (record { brace = refl; otherwise = refl }) (subst (λ (y : StmtShape). Reads y.spelling ts rest) (stmt_open p (act.Cle g) o) w.reads)
 listed_front p act.Empty o ts rest w = part_any p _ o ts rest refl w
 listed_front p (act.Block ss) o ts rest w = part_any p _ o ts rest refl w
 listed_front p (act.Set op a b) o ts rest w = part_any p _ o ts rest refl w
@@ -652,10 +655,10 @@ bump_simple true = record { part = bump_first_piece true; close = refl; semicolo
 bump_simple false = record { part = bump_first_piece false; close = refl; semicolon = refl; head = refl }
 
 simple_front : (x : Act-F Act Stmt) (l c : ℕ) (ms : Spelling) (ts rest : Pieces) → (act_step (stmt_shaped x) l c).form ≡ simple → Reads ((act_step (stmt_shaped x) l c).bare ++ ms) ts rest → Front SimpleFirst ts
-simple_front (act.Set op a b) l z ms ts rest f h = expr_front SimpleFirst simple_first a _ ts rest (subst (λ (y : Spelling). Reads y ts rest) (append_assoc (shape a).spelling (mark_at z (assign_mark op) (shape b).spelling) ms) h)
-simple_front (act.Bump up true a) l z ms ts rest f h = front_of SimpleFirst (sign.Mark (bump_mark up)) (l ∷ []) ((shape a).spelling ++ ms) ts rest (bump_simple up) h
-simple_front (act.Bump up false a) l z ms ts rest f h = expr_front SimpleFirst simple_first a _ ts rest (subst (λ (y : Spelling). Reads y ts rest) (append_assoc (shape a).spelling (mark_at z (bump_mark up) []) ms) h)
-simple_front (act.Call a) l z ms ts rest f h = expr_front SimpleFirst simple_first a ms ts rest h
+simple_front (act.Set op a b) l z ms ts rest f h = led_front SimpleFirst simple_first (l ∷ []) a _ ts rest (subst (λ (y : Spelling). Reads y ts rest) (append_assoc (first_on (l ∷ []) (shape a).spelling) (mark_at z (assign_mark op) (shape b).spelling) ms) h)
+simple_front (act.Bump up true a) l z ms ts rest f h = front_of SimpleFirst (sign.Mark (bump_mark up)) (l ∷ z ∷ []) ((shape a).spelling ++ ms) ts rest (bump_simple up) h
+simple_front (act.Bump up false a) l z ms ts rest f h = led_front SimpleFirst simple_first (l ∷ []) a _ ts rest (subst (λ (y : Spelling). Reads y ts rest) (append_assoc (first_on (l ∷ []) (shape a).spelling) (mark_at z (bump_mark up) []) ms) h)
+simple_front (act.Call a) l z ms ts rest f h = led_front SimpleFirst simple_first (l ∷ z ∷ []) a ms ts rest h
 simple_front act.Empty l z ms ts rest f h = absurd cc
 simple_front (act.Block ss) l z ms ts rest f h = absurd cc
 simple_front (act.If c s None) l z ms ts rest f h = absurd cc
@@ -775,9 +778,9 @@ declare_ended I n all p d proper ms ts rest lt h = with_end (declare_at I) p ms 
 declare_begins : (p : Stmt) (d : Declares p) → (stmt_shape p).proper ≡ true → (ms : Spelling) (ts rest : Pieces) → Reads ((stmt_shape p).bare ++ ms) ts rest → Front DeclFirst ts
 declare_begins p d proper ms ts rest h =
     let e = stmt_open p (act.Declare d.declaration) d.is in
-    let q = and_elim _ _ (subst (λ (y : StmtShape). y.proper ≡ true) e proper) in
-    let r : Reads (declared (p.line ∷ []) d.declaration.is_static d.declaration.names ++ ms) ts rest = subst (λ (y : Spelling). Reads (y ++ ms) ts rest) (declaration_open p.line d.declaration) (subst (λ (y : StmtShape). Reads (y.bare ++ ms) ts rest) e h) in
-    declared_front d.declaration.is_static (p.line ∷ []) d.declaration.names ms ts rest (declaration_names d.declaration q.1) r
+    let q = subst (λ (y : StmtShape). y.proper ≡ true) e proper in
+    let r : Reads (declared (p.line ∷ p.second ∷ []) d.declaration.is_static d.declaration.names ++ ms) ts rest = subst (λ (y : Spelling). Reads (y ++ ms) ts rest) (declaration_open p.line p.second d.declaration) (subst (λ (y : StmtShape). Reads (y.bare ++ ms) ts rest) e h) in
+    declared_front d.declaration.is_static (p.line ∷ p.second ∷ []) d.declaration.names ms ts rest (declaration_names d.declaration q) r
 
 declares_so : (ts : Pieces) → Front DeclFirst ts → declares_at ts ≡ true
 unfolding declares_at
@@ -853,12 +856,12 @@ first_read E n all I inits (Some s) ms ts rest lt p h =
 -- ---- each form
 
 -- by the head of its first piece
-by_head : (S L : StmtReader) (E : Reader) (I : InitReader) (h : Head) (f : Fixed) (l : ℕ) (ms : Spelling) (ts rest : Pieces) (x : Option (Stmt × Pieces)) → sign_head (fixed_sign f) ≡ h → Reads (put_at l (fixed_sign f) ms) ts rest → ((here next : Pieces) → length ts ≡ suc (length next) → Reads ms next rest → headed S L E I h l here next ≡ x) → stmt_of S L E I ts ≡ x
+by_head : (S L : StmtReader) (E : Reader) (I : InitReader) (h : Head) (f : Fixed) (l c : ℕ) (ms : Spelling) (ts rest : Pieces) (x : Option (Stmt × Pieces)) → sign_head (fixed_sign f) ≡ h → Reads (put_on (l ∷ c ∷ []) (fixed_sign f) ms) ts rest → ((here next : Pieces) → c ≡ l → length ts ≡ suc (length next) → Reads ms next rest → headed S L E I h l here next ≡ x) → stmt_of S L E I ts ≡ x
 unfolding stmt_of
-by_head S L E I h f l ms [] rest x e r g = absurd r
-by_head S L E I h f l ms (t ∷ ts) rest x q r g =
+by_head S L E I h f l c ms [] rest x e r g = absurd r
+by_head S L E I h f l c ms (t ∷ ts) rest x q r g =
     let k : sign_head t.what ≡ h = ap sign_head r.0 ∙ q in
-    let e : headed S L E I h l (t ∷ ts) ts ≡ x = g (t ∷ ts) ts refl r.2 in
+    let e : headed S L E I h l (t ∷ ts) ts ≡ x = g (t ∷ ts) ts (sym r.1.1.0 ∙ r.1.0) refl r.2 in
     rw k (subst (λ (y : ℕ). headed S L E I h y (t ∷ ts) ts ≡ x) (sym r.1.0) e)
 
 by_simple : (S L : StmtReader) (E : Reader) (I : InitReader) (ts : Pieces) (x : Option (Stmt × Pieces)) → Front SimpleFirst ts → before (simple_at E ts) semicolon ≡ x → stmt_of S L E I ts ≡ x
@@ -1039,67 +1042,60 @@ stmt_goes S n both L every E m all I inits p (act.Bump up false a) o ts rest lt 
 stmt_goes S n both L every E m all I inits p (act.Call a) o ts rest lt le h = simple_goes S L E I m all p (form_of p _ simple o refl) ts rest le h.stated
 stmt_goes S n both L every E m all I inits p act.Empty o ts rest lt le h =
     let w = opened p act.Empty ts rest o h.stated in
-    by_head S L E I head.Empty semicolon p.line [] ts rest _ refl w.reads (λ here next less r. ap (λ (y : Pieces). some_of {A = Stmt × Pieces} (stmt p.line p.line made.Empty, y)) r ∙ made_so p _ _ rest o rolls-Empty (eqb-true _ _ w.proper))
+    by_head S L E I head.Empty semicolon p.line p.second [] ts rest _ refl w.reads (λ here next same less r. ap (λ (y : Pieces). some_of {A = Stmt × Pieces} (stmt p.line p.line made.Empty, y)) r ∙ made_so p _ _ rest o rolls-Empty same)
 stmt_goes S n both L every E m all I inits p (act.Block ss) o ts rest lt le h =
     let w = opened p (act.Block ss) ts rest o h.stated in
-    let q = and_elim _ _ w.proper in
-    by_head S L E I head.Block open_brace p.line (statements (map stmt_shape ss)) ts rest _ refl w.reads
-    (λ here next less r. let b = block_read L n every (suc (length next)) [] ss next rest (omega arith) (omega arith) q.1 r in rw b (made_so p _ _ rest o (rolls-Block ss) (eqb-true _ _ q.0)))
+    by_head S L E I head.Block open_brace p.line p.second (statements (map stmt_shape ss)) ts rest _ refl w.reads
+    (λ here next same less r. let b = block_read L n every (suc (length next)) [] ss next rest (omega arith) (omega arith) w.proper r in rw b (made_so p _ _ rest o (rolls-Block ss) same))
 stmt_goes S n both L every E m all I inits p (act.If c s None) o ts rest lt le h =
     let w = opened p (act.If c s None) ts rest o h.stated in
-    let q = and_elim _ _ w.proper in
-    let v = and_elim _ _ q.1 in
-    by_head S L E I head.If (fixed.Key key.If) p.line (put_mark mark.OpenParen ((shape c).spelling ++ put_mark mark.CloseParen (stmt_shape s).spelling)) ts rest _ refl w.reads
-    (λ here next less r. if_none S n both E m all c s p.line next rest (omega arith) (omega arith) v.0 v.1 (w.closed refl) r ∙ made_so p _ _ rest o (rolls-If c s None) (eqb-true _ _ q.0))
+    let v = and_elim _ _ w.proper in
+    by_head S L E I head.If (fixed.Key key.If) p.line p.second (put_mark mark.OpenParen ((shape c).spelling ++ put_mark mark.CloseParen (stmt_shape s).spelling)) ts rest _ refl w.reads
+    (λ here next same less r. if_none S n both E m all c s p.line next rest (omega arith) (omega arith) v.0 v.1 (w.closed refl) r ∙ made_so p _ _ rest o (rolls-If c s None) same)
 stmt_goes S n both L every E m all I inits p (act.If c s (Some t)) o ts rest lt le h =
     let w = opened p (act.If c s (Some t)) ts rest o h.stated in
-    let q = and_elim _ _ w.proper in
-    let v = and_elim _ _ q.1 in
+    let v = and_elim _ _ w.proper in
     let u = and_elim _ _ v.1 in
     let k = and_elim _ _ u.1 in
-    by_head S L E I head.If (fixed.Key key.If) p.line (put_mark mark.OpenParen ((shape c).spelling ++ put_mark mark.CloseParen ((stmt_shape s).spelling ++ put_key key.Else (stmt_shape t).spelling))) ts rest _ refl w.reads
-    (λ here next less r. if_some S n both E m all c s t p.line next rest (omega arith) (omega arith) v.0 k.0 u.0 k.1 w.closed r ∙ made_so p _ _ rest o (rolls-If c s (Some t)) (eqb-true _ _ q.0))
+    by_head S L E I head.If (fixed.Key key.If) p.line p.second (put_mark mark.OpenParen ((shape c).spelling ++ put_mark mark.CloseParen ((stmt_shape s).spelling ++ put_key key.Else (stmt_shape t).spelling))) ts rest _ refl w.reads
+    (λ here next same less r. if_some S n both E m all c s t p.line next rest (omega arith) (omega arith) v.0 k.0 u.0 k.1 w.closed r ∙ made_so p _ _ rest o (rolls-If c s (Some t)) same)
 stmt_goes S n both L every E m all I inits p (act.While c s) o ts rest lt le h =
     let w = opened p (act.While c s) ts rest o h.stated in
-    let q = and_elim _ _ w.proper in
-    let v = and_elim _ _ q.1 in
-    by_head S L E I head.While (fixed.Key key.While) p.line (put_mark mark.OpenParen ((shape c).spelling ++ put_mark mark.CloseParen (stmt_shape s).spelling)) ts rest _ refl w.reads
-    (λ here next less r. while_read S n both E m all c s p.line next rest (omega arith) (omega arith) v.0 v.1 w.closed r ∙ made_so p _ _ rest o (rolls-While c s) (eqb-true _ _ q.0))
+    let v = and_elim _ _ w.proper in
+    by_head S L E I head.While (fixed.Key key.While) p.line p.second (put_mark mark.OpenParen ((shape c).spelling ++ put_mark mark.CloseParen (stmt_shape s).spelling)) ts rest _ refl w.reads
+    (λ here next same less r. while_read S n both E m all c s p.line next rest (omega arith) (omega arith) v.0 v.1 w.closed r ∙ made_so p _ _ rest o (rolls-While c s) same)
 stmt_goes S n both L every E m all I inits p (act.DoWhile s c) o ts rest lt le h =
     let w = opened p (act.DoWhile s c) ts rest o h.stated in
-    let q = and_elim _ _ w.proper in
-    let v = and_elim _ _ q.1 in
-    by_head S L E I head.Do (fixed.Key key.Do) p.line ((stmt_shape s).spelling ++ put_key key.While (put_mark mark.OpenParen ((shape c).spelling ++ put_mark mark.CloseParen (put_mark mark.Semicolon [])))) ts rest _ refl w.reads
-    (λ here next less r. do_read S n both E m all s c p.line next rest (omega arith) (omega arith) v.0 v.1 r ∙ made_so p _ _ rest o (rolls-DoWhile s c) (eqb-true _ _ q.0))
+    let v = and_elim _ _ w.proper in
+    by_head S L E I head.Do (fixed.Key key.Do) p.line p.second ((stmt_shape s).spelling ++ put_key key.While (put_mark mark.OpenParen ((shape c).spelling ++ put_mark mark.CloseParen (put_mark mark.Semicolon [])))) ts rest _ refl w.reads
+    (λ here next same less r. do_read S n both E m all s c p.line next rest (omega arith) (omega arith) v.0 v.1 r ∙ made_so p _ _ rest o (rolls-DoWhile s c) same)
 stmt_goes S n both L every E m all I inits p (act.For a b c s) o ts rest lt le h =
     let w = opened p (act.For a b c s) ts rest o h.stated in
     let f = for_is a b c s p.line p.second in
     let proper = subst (λ (y : StmtShape). y.proper ≡ true) f w.proper in
     let reads = subst (λ (y : StmtShape). Reads y.spelling ts rest) f w.reads in
     let closed = subst (λ (y : StmtShape). y.dangling ≡ true → NoElse rest) f w.closed in
-    let q = and_elim _ _ proper in
-    let v = and_elim _ _ q.1 in
+    let v = and_elim _ _ proper in
     let u = and_elim _ _ v.1 in
     let k = and_elim _ _ u.1 in
-    by_head S L E I head.For (fixed.Key key.For) p.line (put_mark mark.OpenParen (head_first (option_map stmt_shape a) ++ (head_test b ++ put_mark mark.Semicolon (head_next (option_map stmt_shape c) ++ put_mark mark.CloseParen (stmt_shape s).spelling)))) ts rest _ refl reads
-    (λ here next less r. for_read S n both E m all I inits a b c s p.line next rest (omega arith) (omega arith) v.0 u.0 k.0 k.1 closed r ∙ made_so p _ _ rest o (rolls-For a b c s) (eqb-true _ _ q.0))
+    by_head S L E I head.For (fixed.Key key.For) p.line p.second (put_mark mark.OpenParen (head_first (option_map stmt_shape a) ++ (head_test b ++ put_mark mark.Semicolon (head_next (option_map stmt_shape c) ++ put_mark mark.CloseParen (stmt_shape s).spelling)))) ts rest _ refl reads
+    (λ here next same less r. for_read S n both E m all I inits a b c s p.line next rest (omega arith) (omega arith) v.0 u.0 k.0 k.1 closed r ∙ made_so p _ _ rest o (rolls-For a b c s) same)
 stmt_goes S n both L every E m all I inits p (act.Return None) o ts rest lt le h =
     let w = opened p (act.Return None) ts rest o h.stated in
-    by_head S L E I head.Return (fixed.Key key.Return) p.line (put_mark mark.Semicolon []) ts rest _ refl w.reads
-    (λ here next less r. return_read E m all None p.line next rest (omega arith) refl r ∙ made_so p _ _ rest o (rolls-Return None) (eqb-true _ _ w.proper))
+    by_head S L E I head.Return (fixed.Key key.Return) p.line p.second (put_mark mark.Semicolon []) ts rest _ refl w.reads
+    (λ here next same less r. return_read E m all None p.line next rest (omega arith) refl r ∙ made_so p _ _ rest o (rolls-Return None) same)
 stmt_goes S n both L every E m all I inits p (act.Return (Some e)) o ts rest lt le h =
     let w = opened p (act.Return (Some e)) ts rest o h.stated in
-    let q = and_elim _ _ w.proper in
-    by_head S L E I head.Return (fixed.Key key.Return) p.line ((shape e).spelling ++ put_mark mark.Semicolon []) ts rest _ refl w.reads
-    (λ here next less r. return_read E m all (Some e) p.line next rest (omega arith) q.1 r ∙ made_so p _ _ rest o (rolls-Return (Some e)) (eqb-true _ _ q.0))
+    by_head S L E I head.Return (fixed.Key key.Return) p.line p.second ((shape e).spelling ++ put_mark mark.Semicolon []) ts rest _ refl w.reads
+    (λ here next same less r. return_read E m all (Some e) p.line next rest (omega arith) w.proper r ∙ made_so p _ _ rest o (rolls-Return (Some e)) same)
 stmt_goes S n both L every E m all I inits p act.Break o ts rest lt le h =
     let w = opened p act.Break ts rest o h.stated in
-    by_head S L E I head.Break (fixed.Key key.Break) p.line (put_mark mark.Semicolon []) ts rest _ refl w.reads
-    (λ here next less r. jump_read made.Break p.line next rest r ∙ made_so p _ _ rest o rolls-Break (eqb-true _ _ w.proper))
+    by_head S L E I head.Break (fixed.Key key.Break) p.line p.second (put_mark mark.Semicolon []) ts rest _ refl w.reads
+    (λ here next same less r. jump_read made.Break p.line next rest r ∙ made_so p _ _ rest o rolls-Break same)
 stmt_goes S n both L every E m all I inits p act.Continue o ts rest lt le h =
     let w = opened p act.Continue ts rest o h.stated in
-    by_head S L E I head.Continue (fixed.Key key.Continue) p.line (put_mark mark.Semicolon []) ts rest _ refl w.reads
-    (λ here next less r. jump_read made.Continue p.line next rest r ∙ made_so p _ _ rest o rolls-Continue (eqb-true _ _ w.proper))
+    by_head S L E I head.Continue (fixed.Key key.Continue) p.line p.second (put_mark mark.Semicolon []) ts rest _ refl w.reads
+    (λ here next same less r. jump_read made.Continue p.line next rest r ∙ made_so p _ _ rest o rolls-Continue same)
 stmt_goes S n both L every E m all I inits p (act.Declare d) o ts rest lt le h =
     let f : is_statement declares ≡ true = subst (λ (y : Form). is_statement y ≡ true) (form_of p _ declares o refl) h.form in absurd cc
 stmt_goes S n both L every E m all I inits p (act.Cle g) o ts rest lt le h =
@@ -1128,7 +1124,7 @@ cle_read S I p g o [] rest h = absurd ((opened p (act.Cle g) [] rest o h).reads)
 cle_read S I p g o (t ∷ ts) rest h =
     let w = opened p (act.Cle g) (t ∷ ts) rest o h in
     let r = w.reads in
-    rw (r.0, r.1.0, r.2) (made_so p _ _ rest o (rolls-Cle g) (eqb-true _ _ w.proper))
+    rw (r.0, r.1.0, r.2) (made_so p _ _ rest o (rolls-Cle g) (sym r.1.1.0 ∙ r.1.0))
 
 listed_part : (S : StmtReader) (n : ℕ) → StmtComplete S n → (I : InitReader) (p : Stmt) (x : Act-F Act Stmt) → out-Act p.node ≡ x → is_statement (act_step (stmt_shaped x) p.line p.second).form ≡ true → (ts rest : Pieces) → length ts < n → Stated p ts rest → listed_of S I ts ≡ Some (p, rest)
 listed_part S n both I p x o f ts rest lt h =

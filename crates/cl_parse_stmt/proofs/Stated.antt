@@ -1,6 +1,6 @@
 -- Statements: what is read is spelled so, and what is spelled so is read.
-use Rattle.std.proofs.Common.{◌≡◌, ℕ, zero, suc, ◌≤◌, List, [], ◌∷◌, ◌++◌, length, map, refl, subst, sym, ap, ◌∙◌, arith, Bool, true, false, not, ◌&&◌, cond, eqb, Option, Some, None, inl, inr, append_assoc}
-use Rattle.std.proofs.lemmas.Bool.{eq-eqb, le-leb}
+use Rattle.std.proofs.Common.{◌≡◌, ℕ, zero, suc, ◌≤◌, List, [], ◌∷◌, ◌++◌, length, map, refl, subst, sym, ap, ◌∙◌, arith, Bool, true, false, not, ◌&&◌, cond, Option, Some, None, inl, inr, append_assoc}
+use Rattle.std.proofs.lemmas.Bool.{le-leb}
 use Rattle.std.specs.List.{flat_map}
 use Rattle.std.specs.Option.{option_map}
 use Rattle.std.proofs.lemmas.List.{append-nil}
@@ -23,7 +23,7 @@ use Rattle.cl_tree.specs.declared.tree.Act.{Act, Act-F, out-Act, roll-Act, roll-
 use Rattle.cl_tree.specs.declared.tree.Act.TheOpen as act
 use Rattle.cl_tree.specs.declared.tree.Act.TheVariants as made
 use Rattle.cl_tree.specs.declared.tree.Act.TheVariants.{outs-Empty, outs-Block, outs-Set, outs-Bump, outs-Call, outs-If, outs-While, outs-DoWhile, outs-For, outs-Return, outs-Break, outs-Continue, outs-Declare, outs-Cle}
-use Rattle.cl_tree.specs.Spelling.{Spelling, put_mark, put_key, mark_at, key_at, Reads, node_step, shape}
+use Rattle.cl_tree.specs.Spelling.{Spelling, put_mark, put_key, mark_on, mark_at, key_on, first_on, Reads, node_step, shape}
 use Rattle.cl_tree.specs.Statements.{Form, simple, declares, other, StmtShape, act_step, stmt_shape, assign_mark, assigns, bump_mark, is_call, before_semicolon, of_form, is_statement, is_simple, is_head, is_part, all_stmts, statements, head_first, head_test, head_next, is_first, is_test, is_next, declared, declaration, is_declaration}
 use Rattle.cl_parse_expr.specs.declared.cursor.Fixed.{Fixed}
 use Rattle.cl_parse_expr.specs.declared.cursor.Fixed.TheVariants as fixed
@@ -32,6 +32,7 @@ use Rattle.cl_parse_expr.specs.Types.{base_at}
 use Rattle.cl_parse_expr.specs.Reading.{Reader, opening, close}
 use Rattle.cl_parse_expr.proofs.Shapes.{shape_is, shaped}
 use Rattle.cl_parse_expr.proofs.Marks.{some_is, and_intro, reads_append, fixed_self, found_sound, bind_some, found_ok}
+use Rattle.cl_parse_expr.proofs.First.{begun}
 use Rattle.cl_parse_expr.proofs.Sound.{Sound}
 use Rattle.cl_parse_stmt.specs.declared.simple.Tail.{Tail}
 use Rattle.cl_parse_stmt.specs.declared.simple.Tail.TheVariants as tail
@@ -205,8 +206,8 @@ tail_sound E sound start a here reads proper tail.Nothing q x e =
     let g = guarded (is_call a) (Some (stmt a.line a.line (made.Call a), here)) x e in
     let z = some_is (stmt a.line a.line (made.Call a), here) x g.1 in
     subst (λ (y : Stmt × Pieces). Lined simple y.0 start y.1) z
-    (lined a.line a.line (made.Call a) (act.Call a) simple (shape a).spelling _ start here (outs-Call a) refl
-    (and_intro _ _ (eq-eqb a.line a.line refl) (and_intro _ _ (eq-eqb a.line a.line refl) (and_intro _ _ g.0 proper))) reads)
+    (lined a.line a.line (made.Call a) (act.Call a) simple (first_on (a.line ∷ a.line ∷ []) (shape a).spelling) _ start here (outs-Call a) refl
+    (and_intro _ _ g.0 proper) (begun (a.line ∷ a.line ∷ []) a start here (refl, (refl, tt)) reads))
 tail_sound E sound start a here reads proper (tail.Assign op) q x e =
     let line = (tail_at here).1 in
     let next = (tail_at here).2 in
@@ -216,18 +217,18 @@ tail_sound E sound start a here reads proper (tail.Assign op) q x e =
     let w = sound 1 next b.0 (omega arith) (omega arith) b.1 in
     let z = some_is (stmt a.line line (made.Set op a b.0.0), b.0.1) x b.2 in
     subst (λ (y : Stmt × Pieces). Lined simple y.0 start y.1) z
-    (lined a.line line (made.Set op a b.0.0) (act.Set op a b.0.0) simple ((shape a).spelling ++ mark_at line (assign_mark op) (shape b.0.0).spelling) _ start b.0.1 (outs-Set op a b.0.0) refl
-    (and_intro _ _ (eq-eqb a.line a.line refl) (and_intro _ _ t.0 (and_intro _ _ (le-leb 13 _ (unary_level a g.0)) (and_intro _ _ proper w.left.proper))))
-    (reads_append (shape a).spelling _ start here b.0.1 reads (t.1 (shape b.0.0).spelling b.0.1 w.left.reads)))
+    (lined a.line line (made.Set op a b.0.0) (act.Set op a b.0.0) simple (first_on (a.line ∷ []) (shape a).spelling ++ mark_at line (assign_mark op) (shape b.0.0).spelling) _ start b.0.1 (outs-Set op a b.0.0) refl
+    (and_intro _ _ t.0 (and_intro _ _ (le-leb 13 _ (unary_level a g.0)) (and_intro _ _ proper w.left.proper)))
+    (reads_append (first_on (a.line ∷ []) (shape a).spelling) _ start here b.0.1 (begun (a.line ∷ []) a start here (refl, tt) reads) (t.1 (shape b.0.0).spelling b.0.1 w.left.reads)))
 tail_sound E sound start a here reads proper (tail.Bump up) q x e =
     let line = (tail_at here).1 in
     let next = (tail_at here).2 in
     let g = guarded (is_unary a) (Some (stmt a.line line (made.Bump up false a), next)) x e in
     let z = some_is (stmt a.line line (made.Bump up false a), next) x g.1 in
     subst (λ (y : Stmt × Pieces). Lined simple y.0 start y.1) z
-    (lined a.line line (made.Bump up false a) (act.Bump up false a) simple ((shape a).spelling ++ mark_at line (bump_mark up) []) _ start next (outs-Bump up false a) refl
-    (and_intro _ _ (eq-eqb a.line a.line refl) (and_intro _ _ (le-leb 13 _ (unary_level a g.0)) proper))
-    (reads_append (shape a).spelling _ start here next reads (tail_bumped here up q)))
+    (lined a.line line (made.Bump up false a) (act.Bump up false a) simple (first_on (a.line ∷ []) (shape a).spelling ++ mark_at line (bump_mark up) []) _ start next (outs-Bump up false a) refl
+    (and_intro _ _ (le-leb 13 _ (unary_level a g.0)) proper)
+    (reads_append (first_on (a.line ∷ []) (shape a).spelling) _ start here next (begun (a.line ∷ []) a start here (refl, tt) reads) (tail_bumped here up q)))
 
 bumped_sound : (E : Reader) → Sound E → (start : Pieces) (m : Mark) (up : Bool) → m ≡ bump_mark up → (o : ℕ × Pieces) → after (fixed.Mark m) start ≡ Some o → (x : Stmt × Pieces) → bumped E up o.0 o.1 ≡ Some x → Lined simple x.0 start x.1
 unfolding bumped
@@ -237,10 +238,10 @@ bumped_sound E sound start m up same o f x e =
     let g = guarded (is_unary a.0.0) (Some (stmt o.0 o.0 (made.Bump up true a.0.0), a.0.1)) x a.2 in
     let z = some_is (stmt o.0 o.0 (made.Bump up true a.0.0), a.0.1) x g.1 in
     subst (λ (y : Stmt × Pieces). Lined simple y.0 start y.1) z
-    (lined o.0 o.0 (made.Bump up true a.0.0) (act.Bump up true a.0.0) simple (mark_at o.0 (bump_mark up) (shape a.0.0).spelling) _ start a.0.1 (outs-Bump up true a.0.0) refl
-    (and_intro _ _ (eq-eqb o.0 o.0 refl) (and_intro _ _ (le-leb 13 _ (unary_level a.0.0 g.0)) w.left.proper))
-    (subst (λ (y : Mark). Reads (mark_at o.0 y (shape a.0.0).spelling) start a.0.1) same
-    (found_sound (fixed.Mark m) (o.0 ∷ []) (shape a.0.0).spelling start a.0.1 o f (refl, tt) w.left.reads)))
+    (lined o.0 o.0 (made.Bump up true a.0.0) (act.Bump up true a.0.0) simple (mark_on (o.0 ∷ o.0 ∷ []) (bump_mark up) (shape a.0.0).spelling) _ start a.0.1 (outs-Bump up true a.0.0) refl
+    (and_intro _ _ (le-leb 13 _ (unary_level a.0.0 g.0)) w.left.proper)
+    (subst (λ (y : Mark). Reads (mark_on (o.0 ∷ o.0 ∷ []) y (shape a.0.0).spelling) start a.0.1) same
+    (found_sound (fixed.Mark m) (o.0 ∷ o.0 ∷ []) (shape a.0.0).spelling start a.0.1 o f (refl, (refl, tt)) w.left.reads)))
 
 abbrev pub LineSound : Form → StmtReader → Type 0
 LineSound form S = (ts : Pieces) (x : Stmt × Pieces) → S ts ≡ Some x → Lined form x.0 ts x.1
@@ -261,10 +262,10 @@ simple_sound E sound ts x e =
 
 -- ---- declarations
 
-declared_line : (l : ℕ) (b : Bool) (ds : List Declarator) (start rest : Pieces) → Reads (declared (l ∷ []) b ds) start rest → (is_declaration (declared_as b ds)) ≡ true → Lined declares (stmt l l (made.Declare (declared_as b ds))) start rest
+declared_line : (l : ℕ) (b : Bool) (ds : List Declarator) (start rest : Pieces) → Reads (declared (l ∷ l ∷ []) b ds) start rest → (is_declaration (declared_as b ds)) ≡ true → Lined declares (stmt l l (made.Declare (declared_as b ds))) start rest
 unfolding declaration
 declared_line l b ds start rest r p =
-    lined l l (made.Declare (declared_as b ds)) (act.Declare (declared_as b ds)) declares (declared (l ∷ []) b ds) _ start rest (outs-Declare (declared_as b ds)) refl (and_intro _ _ (eq-eqb l l refl) p) r
+    lined l l (made.Declare (declared_as b ds)) (act.Declare (declared_as b ds)) declares (declared (l ∷ l ∷ []) b ds) _ start rest (outs-Declare (declared_as b ds)) refl p r
 
 named_proper : (b : Bool) (I : InitReader) (b0 : Base) (f o : ℕ) (ds : List Declarator) (ts rest : Pieces) → Named_all true b0 f o ds ts rest → is_declaration (declared_as b ds) ≡ true
 unfolding is_declaration
@@ -284,7 +285,7 @@ declare_sound I sound ts x e =
           let z = some_is (stmt s.0 s.0 (made.Declare d.0.0), d.0.1) x d.2 in
           subst (λ (y : Stmt × Pieces). Lined declares y.0 ts y.1) z
           (subst (λ (y : Declaration × Pieces). Lined declares (stmt s.0 s.0 (made.Declare y.0)) ts y.1) q
-          (declared_line s.0 true n.0.0 ts n.0.1 (declared_static (s.0 ∷ []) ts s h.1 b.0 b.1 (refl, tt) n.0 w) (named_proper true I b.0.0 b.0.1 s.0 n.0.0 b.0.2 n.0.1 w)))
+          (declared_line s.0 true n.0.0 ts n.0.1 (declared_static (s.0 ∷ s.0 ∷ []) ts s h.1 b.0 b.1 (refl, (refl, tt)) n.0 w) (named_proper true I b.0.0 b.0.1 s.0 n.0.0 b.0.2 n.0.1 w)))
       | inl h ↦
           let l = line_of ts in
           let d = bind_some (declaration_from I false l ts) (λ d. Some (stmt l l (made.Declare d.0), d.1)) x h.1 in
@@ -295,7 +296,7 @@ declare_sound I sound ts x e =
           let z = some_is (stmt l l (made.Declare d.0.0), d.0.1) x d.2 in
           subst (λ (y : Stmt × Pieces). Lined declares y.0 ts y.1) z
           (subst (λ (y : Declaration × Pieces). Lined declares (stmt l l (made.Declare y.0)) ts y.1) q
-          (declared_line l false n.0.0 ts n.0.1 (declared_plain (l ∷ []) l ts b.0 b.1 refl (refl, tt) n.0 w) (named_proper false I b.0.0 b.0.1 l n.0.0 b.0.2 n.0.1 w)))
+          (declared_line l false n.0.0 ts n.0.1 (declared_plain (l ∷ l ∷ []) l ts b.0 b.1 refl (refl, (refl, tt)) n.0 w) (named_proper false I b.0.0 b.0.1 l n.0.0 b.0.2 n.0.1 w)))
     ]
 
 -- a simple statement or a declaration, with its `;`
@@ -346,18 +347,18 @@ if_sound E sound S both start o begin x e =
           let z = some_is (stmt l l (made.If c.0.0 s.0.0 None), s.0.1) x h.1 in
           subst (λ (y : Stmt × Pieces). Part y.0 start y.1) z
           (part_made l l (made.If c.0.0 s.0.0 None) (act.If c.0.0 s.0.0 None) start s.0.1 (outs-If c.0.0 s.0.0 None)
-          (found_sound (fixed.Key key.If) (l ∷ []) (put_mark mark.OpenParen ((shape c.0.0).spelling ++ put_mark mark.CloseParen (stmt_shape s.0.0).spelling)) start s.0.1 o begin (refl, tt) (d.1 (stmt_shape s.0.0).spelling s.0.1 u.stated.reads))
-          (and_intro _ _ (eq-eqb l l refl) (and_intro _ _ d.0 (and_intro _ _ u.form u.stated.proper))) refl (λ _. h.0))
+          (found_sound (fixed.Key key.If) (l ∷ l ∷ []) (put_mark mark.OpenParen ((shape c.0.0).spelling ++ put_mark mark.CloseParen (stmt_shape s.0.0).spelling)) start s.0.1 o begin (refl, (refl, tt)) (d.1 (stmt_shape s.0.0).spelling s.0.1 u.stated.reads))
+          (and_intro _ _ d.0 (and_intro _ _ u.form u.stated.proper)) refl (λ _. h.0))
       | inr h ↦
           let t = bind_some (S h.0.1) (λ t. Some (stmt l l (made.If c.0.0 s.0.0 (Some t.0)), t.1)) x h.2 in
           let v = both h.0.1 t.0 t.1 in
           let z = some_is (stmt l l (made.If c.0.0 s.0.0 (Some t.0.0)), t.0.1) x t.2 in
           subst (λ (y : Stmt × Pieces). Part y.0 start y.1) z
           (part_made l l (made.If c.0.0 s.0.0 (Some t.0.0)) (act.If c.0.0 s.0.0 (Some t.0.0)) start t.0.1 (outs-If c.0.0 s.0.0 (Some t.0.0))
-          (found_sound (fixed.Key key.If) (l ∷ []) (put_mark mark.OpenParen ((shape c.0.0).spelling ++ put_mark mark.CloseParen ((stmt_shape s.0.0).spelling ++ put_key key.Else (stmt_shape t.0.0).spelling))) start t.0.1 o begin (refl, tt)
+          (found_sound (fixed.Key key.If) (l ∷ l ∷ []) (put_mark mark.OpenParen ((shape c.0.0).spelling ++ put_mark mark.CloseParen ((stmt_shape s.0.0).spelling ++ put_key key.Else (stmt_shape t.0.0).spelling))) start t.0.1 o begin (refl, (refl, tt))
           (d.1 ((stmt_shape s.0.0).spelling ++ put_key key.Else (stmt_shape t.0.0).spelling) t.0.1
           (reads_append (stmt_shape s.0.0).spelling (put_key key.Else (stmt_shape t.0.0).spelling) c.0.1 s.0.1 t.0.1 u.stated.reads (found_sound else_key [] (stmt_shape t.0.0).spelling s.0.1 t.0.1 h.0 h.1 tt v.stated.reads))))
-          (and_intro _ _ (eq-eqb l l refl) (and_intro _ _ d.0 (and_intro _ _ (not_open _ s.0.1 h.0 u.stated.closed h.1) (and_intro _ _ (and_intro _ _ u.form u.stated.proper) (and_intro _ _ v.form v.stated.proper)))))
+          (and_intro _ _ d.0 (and_intro _ _ (not_open _ s.0.1 h.0 u.stated.closed h.1) (and_intro _ _ (and_intro _ _ u.form u.stated.proper) (and_intro _ _ v.form v.stated.proper))))
           refl v.stated.closed)
     ]
 
@@ -372,8 +373,8 @@ while_sound E sound S both start o begin x e =
     let z = some_is (stmt l l (made.While c.0.0 s.0.0), s.0.1) x s.2 in
     subst (λ (y : Stmt × Pieces). Part y.0 start y.1) z
     (part_made l l (made.While c.0.0 s.0.0) (act.While c.0.0 s.0.0) start s.0.1 (outs-While c.0.0 s.0.0)
-    (found_sound (fixed.Key key.While) (l ∷ []) (put_mark mark.OpenParen ((shape c.0.0).spelling ++ put_mark mark.CloseParen (stmt_shape s.0.0).spelling)) start s.0.1 o begin (refl, tt) (d.1 (stmt_shape s.0.0).spelling s.0.1 u.stated.reads))
-    (and_intro _ _ (eq-eqb l l refl) (and_intro _ _ d.0 (and_intro _ _ u.form u.stated.proper))) refl u.stated.closed)
+    (found_sound (fixed.Key key.While) (l ∷ l ∷ []) (put_mark mark.OpenParen ((shape c.0.0).spelling ++ put_mark mark.CloseParen (stmt_shape s.0.0).spelling)) start s.0.1 o begin (refl, (refl, tt)) (d.1 (stmt_shape s.0.0).spelling s.0.1 u.stated.reads))
+    (and_intro _ _ d.0 (and_intro _ _ u.form u.stated.proper)) refl u.stated.closed)
 
 do_sound : (E : Reader) → Sound E → (S : StmtReader) → StmtSound S → (start : Pieces) (o : ℕ × Pieces) → Key key.Do start o → (x : Stmt × Pieces) → do_at S E o.0 o.1 ≡ Some x → Part x.0 start x.1
 unfolding do_at
@@ -388,10 +389,10 @@ do_sound E sound S both start o begin x e =
     let z = some_is (stmt l l (made.DoWhile s.0.0 c.0.0), f.0.1) x f.2 in
     subst (λ (y : Stmt × Pieces). Part y.0 start y.1) z
     (part_made l l (made.DoWhile s.0.0 c.0.0) (act.DoWhile s.0.0 c.0.0) start f.0.1 (outs-DoWhile s.0.0 c.0.0)
-    (found_sound (fixed.Key key.Do) (l ∷ []) ((stmt_shape s.0.0).spelling ++ put_key key.While (put_mark mark.OpenParen ((shape c.0.0).spelling ++ put_mark mark.CloseParen (put_mark mark.Semicolon [])))) start f.0.1 o begin (refl, tt)
+    (found_sound (fixed.Key key.Do) (l ∷ l ∷ []) ((stmt_shape s.0.0).spelling ++ put_key key.While (put_mark mark.OpenParen ((shape c.0.0).spelling ++ put_mark mark.CloseParen (put_mark mark.Semicolon [])))) start f.0.1 o begin (refl, (refl, tt))
     (reads_append (stmt_shape s.0.0).spelling (put_key key.While (put_mark mark.OpenParen ((shape c.0.0).spelling ++ put_mark mark.CloseParen (put_mark mark.Semicolon [])))) o.1 s.0.1 f.0.1 u.stated.reads
     (found_sound (fixed.Key key.While) [] (put_mark mark.OpenParen ((shape c.0.0).spelling ++ put_mark mark.CloseParen (put_mark mark.Semicolon []))) s.0.1 f.0.1 w.0 w.1 tt (d.1 (put_mark mark.Semicolon []) f.0.1 (found_sound semicolon [] [] c.0.1 f.0.1 f.0 f.1 tt refl)))))
-    (and_intro _ _ (eq-eqb l l refl) (and_intro _ _ (and_intro _ _ u.form u.stated.proper) d.0)) refl (never f.0.1))
+    (and_intro _ _ (and_intro _ _ u.form u.stated.proper) d.0) refl (never f.0.1))
 
 first_sound : (E : Reader) → Sound E → (I : InitReader) → InitSound I → (ts : Pieces) (x : Option Stmt × Pieces) → first_at E I ts ≡ Some x → Reads (head_first (option_map stmt_shape x.0)) ts x.1 × (is_first (option_map stmt_shape x.0) ≡ true)
 unfolding first_at line_at
@@ -465,8 +466,8 @@ next_sound E sound ts x e =
 -- a `for`, of whose parts some may be left out
 abbrev pub for_shape : Option Stmt → Option Expr → Option Stmt → Stmt → ℕ → ℕ → StmtShape
 for_shape a b c s line second =
-    of_form other (key_at line key.For (put_mark mark.OpenParen (head_first (option_map stmt_shape a) ++ (head_test b ++ put_mark mark.Semicolon (head_next (option_map stmt_shape c) ++ put_mark mark.CloseParen (stmt_shape s).spelling))))) (stmt_shape s).dangling
-    (eqb second line && (is_first (option_map stmt_shape a) && (is_test b && (is_next (option_map stmt_shape c) && is_part (stmt_shape s)))))
+    of_form other (key_on (line ∷ second ∷ []) key.For (put_mark mark.OpenParen (head_first (option_map stmt_shape a) ++ (head_test b ++ put_mark mark.Semicolon (head_next (option_map stmt_shape c) ++ put_mark mark.CloseParen (stmt_shape s).spelling))))) (stmt_shape s).dangling
+    (is_first (option_map stmt_shape a) && (is_test b && (is_next (option_map stmt_shape c) && is_part (stmt_shape s))))
 
 pub for_is : (a : Option Stmt) (b : Option Expr) (c : Option Stmt) (s : Stmt) (line second : ℕ) → act_step (stmt_shaped (act.For a b c s)) line second ≡ for_shape a b c s line second
 for_is None b None s line second = refl
@@ -493,10 +494,10 @@ for_sound E sound I inits S both start o begin x e =
     let second = wb.1 (head_next (option_map stmt_shape c.0.0) ++ put_mark mark.CloseParen body) s.0.1 third in
     let q = for_is a.0.0 b.0.0 c.0.0 s.0.0 l l in
     let inner : Spelling = put_mark mark.OpenParen (head_first (option_map stmt_shape a.0.0) ++ (head_test b.0.0 ++ put_mark mark.Semicolon (head_next (option_map stmt_shape c.0.0) ++ put_mark mark.CloseParen body))) in
-    let all_reads : Reads (key_at l key.For inner) start s.0.1 = found_sound (fixed.Key key.For) (l ∷ []) inner start s.0.1 o begin (refl, tt)
+    let all_reads : Reads (key_on (l ∷ l ∷ []) key.For inner) start s.0.1 = found_sound (fixed.Key key.For) (l ∷ l ∷ []) inner start s.0.1 o begin (refl, (refl, tt))
     (found_sound opening [] (head_first (option_map stmt_shape a.0.0) ++ (head_test b.0.0 ++ put_mark mark.Semicolon (head_next (option_map stmt_shape c.0.0) ++ put_mark mark.CloseParen body))) o.1 s.0.1 g.0 g.1 tt
     (reads_append (head_first (option_map stmt_shape a.0.0)) (head_test b.0.0 ++ put_mark mark.Semicolon (head_next (option_map stmt_shape c.0.0) ++ put_mark mark.CloseParen body)) g.0.1 a.0.1 s.0.1 wa.0 second)) in
-    let all_proper : (eqb l l && (is_first (option_map stmt_shape a.0.0) && (is_test b.0.0 && (is_next (option_map stmt_shape c.0.0) && is_part (stmt_shape s.0.0))))) ≡ true = and_intro _ _ (eq-eqb l l refl) (and_intro _ _ wa.1 (and_intro _ _ wb.0 (and_intro _ _ wc.0 (and_intro _ _ u.form u.stated.proper)))) in
+    let all_proper : (is_first (option_map stmt_shape a.0.0) && (is_test b.0.0 && (is_next (option_map stmt_shape c.0.0) && is_part (stmt_shape s.0.0)))) ≡ true = and_intro _ _ wa.1 (and_intro _ _ wb.0 (and_intro _ _ wc.0 (and_intro _ _ u.form u.stated.proper))) in
     subst (λ (y : Stmt × Pieces). Part y.0 start y.1) z
     (part_made l l (made.For a.0.0 b.0.0 c.0.0 s.0.0) (act.For a.0.0 b.0.0 c.0.0 s.0.0) start s.0.1 (outs-For a.0.0 b.0.0 c.0.0 s.0.0)
     (subst (λ (y : StmtShape). Reads y.spelling start s.0.1) (sym q) all_reads)
@@ -504,9 +505,9 @@ for_sound E sound I inits S both start o begin x e =
     (subst (λ (y : StmtShape). is_statement y.form ≡ true) (sym q) refl)
     (subst (λ (y : StmtShape). y.dangling ≡ true → NoElse s.0.1) (sym q) u.stated.closed))
 
-return_made : (r : Option Expr) (l : ℕ) (start rest : Pieces) → Reads (key_at l key.Return (head_test r ++ put_mark mark.Semicolon [])) start rest → is_test r ≡ true → Part (stmt l l (made.Return r)) start rest
-return_made None l start rest reads p = part_made l l (made.Return None) (act.Return None) start rest (outs-Return None) reads (eq-eqb l l refl) refl (never rest)
-return_made (Some r) l start rest reads p = part_made l l (made.Return (Some r)) (act.Return (Some r)) start rest (outs-Return (Some r)) reads (and_intro _ _ (eq-eqb l l refl) p) refl (never rest)
+return_made : (r : Option Expr) (l : ℕ) (start rest : Pieces) → Reads (key_on (l ∷ l ∷ []) key.Return (head_test r ++ put_mark mark.Semicolon [])) start rest → is_test r ≡ true → Part (stmt l l (made.Return r)) start rest
+return_made None l start rest reads p = part_made l l (made.Return None) (act.Return None) start rest (outs-Return None) reads refl refl (never rest)
+return_made (Some r) l start rest reads p = part_made l l (made.Return (Some r)) (act.Return (Some r)) start rest (outs-Return (Some r)) reads p refl (never rest)
 
 return_sound : (E : Reader) → Sound E → (start : Pieces) (o : ℕ × Pieces) → Key key.Return start o → (x : Stmt × Pieces) → return_at E o.0 o.1 ≡ Some x → Part x.0 start x.1
 unfolding return_at
@@ -516,9 +517,9 @@ return_sound E sound start o begin x e =
     let w = value_sound E sound o.1 v.0 v.1 in
     let z = some_is (stmt l l (made.Return v.0.0), v.0.1) x v.2 in
     subst (λ (y : Stmt × Pieces). Part y.0 start y.1) z
-    (return_made v.0.0 l start v.0.1 (found_sound (fixed.Key key.Return) (l ∷ []) (head_test v.0.0 ++ put_mark mark.Semicolon []) start v.0.1 o begin (refl, tt) (w.1 [] v.0.1 refl)) w.0)
+    (return_made v.0.0 l start v.0.1 (found_sound (fixed.Key key.Return) (l ∷ l ∷ []) (head_test v.0.0 ++ put_mark mark.Semicolon []) start v.0.1 o begin (refl, (refl, tt)) (w.1 [] v.0.1 refl)) w.0)
 
-jump_sound : (k : Keyword) (n : Act) (v : Act-F Act Stmt) → out-Act n ≡ v → ((l : ℕ) → act_step (stmt_shaped v) l l ≡ of_form other (key_at l k (put_mark mark.Semicolon [])) false (eqb l l)) → (start : Pieces) (o : ℕ × Pieces) → Key k start o → (x : Stmt × Pieces) → jump_at n o.0 o.1 ≡ Some x → Part x.0 start x.1
+jump_sound : (k : Keyword) (n : Act) (v : Act-F Act Stmt) → out-Act n ≡ v → ((l : ℕ) → act_step (stmt_shaped v) l l ≡ of_form other (key_on (l ∷ l ∷ []) k (put_mark mark.Semicolon [])) false true) → (start : Pieces) (o : ℕ × Pieces) → Key k start o → (x : Stmt × Pieces) → jump_at n o.0 o.1 ≡ Some x → Part x.0 start x.1
 unfolding jump_at
 jump_sound k n v out step start o begin x e =
     let l = o.0 in
@@ -526,8 +527,8 @@ jump_sound k n v out step start o begin x e =
     let z = some_is (stmt l l n, c.0.1) x c.2 in
     subst (λ (y : Stmt × Pieces). Part y.0 start y.1) z
     (part_made l l n v start c.0.1 out
-    (subst (λ (y : StmtShape). Reads y.spelling start c.0.1) (sym (step l)) (found_sound (fixed.Key k) (l ∷ []) (put_mark mark.Semicolon []) start c.0.1 o begin (refl, tt) (found_sound semicolon [] [] o.1 c.0.1 c.0 c.1 tt refl)))
-    (subst (λ (y : StmtShape). y.proper ≡ true) (sym (step l)) (eq-eqb l l refl))
+    (subst (λ (y : StmtShape). Reads y.spelling start c.0.1) (sym (step l)) (found_sound (fixed.Key k) (l ∷ l ∷ []) (put_mark mark.Semicolon []) start c.0.1 o begin (refl, (refl, tt)) (found_sound semicolon [] [] o.1 c.0.1 c.0 c.1 tt refl)))
+    (subst (λ (y : StmtShape). y.proper ≡ true) (sym (step l)) refl)
     (subst (λ (y : StmtShape). is_statement y.form ≡ true) (sym (step l)) refl)
     (subst (λ (y : StmtShape). y.dangling ≡ true → NoElse c.0.1) (sym (step l)) (never c.0.1)))
 
@@ -565,7 +566,7 @@ whole_block L both start o begin x e =
     let z = some_is (stmt l l (made.Block b.0.0), b.0.1) x b.2 in
     subst (λ (y : Stmt × Pieces). Part y.0 start y.1) z
     (subst (λ (y : List Stmt). Part (stmt l l (made.Block y)) start b.0.1) (sym r.1)
-    (part_made l l (made.Block r.0) (act.Block r.0) start b.0.1 (outs-Block r.0) (found_sound open_brace (l ∷ []) (statements (map stmt_shape r.0)) start b.0.1 o begin (refl, tt) r.2) (and_intro _ _ (eq-eqb l l refl) r.3) refl (never b.0.1)))
+    (part_made l l (made.Block r.0) (act.Block r.0) start b.0.1 (outs-Block r.0) (found_sound open_brace (l ∷ l ∷ []) (statements (map stmt_shape r.0)) start b.0.1 o begin (refl, (refl, tt)) r.2) r.3 refl (never b.0.1)))
 
 before_sound : (form : Form) (S : StmtReader) → LineSound form S → (ts : Pieces) (x : Stmt × Pieces) → before (S ts) semicolon ≡ Some x → Stated x.0 ts x.1 × ((stmt_shape x.0).form ≡ form)
 before_sound form S sounds ts x e =
@@ -585,8 +586,8 @@ listed_sound S both I inits t ts (sign.Cle p) same x e =
     let z = some_is (stmt l l (made.Cle p), ts) x e in
     let q = stmt_made l l (made.Cle p) (act.Cle p) (outs-Cle p) in
     subst (λ (y : Stmt × Pieces). Stated y.0 (t ∷ ts) y.1) z (record {
-      reads = subst (λ (y : StmtShape). Reads y.spelling (t ∷ ts) ts) (sym q) (same, (refl, tt), refl);
-      proper = subst (λ (y : StmtShape). y.proper ≡ true) (sym q) (eq-eqb l l refl);
+      reads = subst (λ (y : StmtShape). Reads y.spelling (t ∷ ts) ts) (sym q) (same, (refl, (refl, tt)), refl);
+      proper = subst (λ (y : StmtShape). y.proper ≡ true) (sym q) refl;
       closed = subst (λ (y : StmtShape). y.dangling ≡ true → NoElse ts) (sym q) (never ts);
     })
 listed_sound S both I inits t ts _ same x e = listed_by S both I inits (declares_at (t ∷ ts)) (t ∷ ts) x e
@@ -637,7 +638,7 @@ unfolding headed
 headed_sound E sound I inits S both t ts head.Empty same x e =
     let l = t.line in
     let z = some_is (stmt l l made.Empty, ts) x e in
-    subst (λ (y : Stmt × Pieces). Part y.0 (t ∷ ts) y.1) z (part_made l l made.Empty act.Empty (t ∷ ts) ts outs-Empty (same, (refl, tt), refl) (eq-eqb l l refl) refl (never ts))
+    subst (λ (y : Stmt × Pieces). Part y.0 (t ∷ ts) y.1) z (part_made l l made.Empty act.Empty (t ∷ ts) ts outs-Empty (same, (refl, (refl, tt)), refl) refl refl (never ts))
 headed_sound E sound I inits S both t ts head.Block same x e = whole_block (listed_of S I) (listed_of_sound S both I inits) (t ∷ ts) (t.line, ts) (front open_brace t ts same) x e
 headed_sound E sound I inits S both t ts head.If same x e = if_sound E sound S both (t ∷ ts) (t.line, ts) (front (fixed.Key key.If) t ts same) x e
 headed_sound E sound I inits S both t ts head.While same x e = while_sound E sound S both (t ∷ ts) (t.line, ts) (front (fixed.Key key.While) t ts same) x e

@@ -1,4 +1,3 @@
 pub mod Declaring
 pub mod Stating
 pub mod Itemising
-pub mod Whole

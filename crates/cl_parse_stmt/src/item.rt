@@ -10,12 +10,12 @@ ghost use Rattle.cl_parse_stmt.specs.Stating.{block_at, listed_of, stmt_at};
 ghost use Rattle.cl_parse_stmt.specs.Itemising.{member_at, members_at, struct_from, parameter_at, more_parameters, parameters_at, body_at, function_from, variables_from, called_at, plain_from, plain_at, struct_at, unmarked_at, item_step, item_of};
 
 use crate::declare::{declarator_at, names_of};
-use crate::pragma;
 use crate::stmt::block_at;
 use cl_base::name::{Name, NoMemory};
 use cl_parse_expr::cursor::{Fixed, after, line_of, name_at, wanted};
 use cl_parse_expr::stop::Stop;
 use cl_parse_expr::types::{base_at, pointers_at, second_at, type_of};
+use cl_pieces::pieces::copy_pragma;
 use cl_tree::grammar::{Base, Keyword, Piece, Sign};
 use cl_tree::token::{Mark, Pragma};
 use cl_tree::tree::{CType, Declaration, Declarator, Item, Stmt};
@@ -382,7 +382,7 @@ fn unmarked_at(
 fn directive(alloc: Global, pragma: &Pragma, line: u32) -> Result<Boxed<Item>, NoMemory>
     ensures { IfOk result (λ i. i ≡ Item.Cle pragma.now line) }
 {
-    let pragma = pragma::copy(alloc, pragma)?;
+    let pragma = copy_pragma(alloc, pragma)?;
     Ok(Boxed::new(alloc, Item::Cle(pragma, line))?)
 }
 

@@ -3,7 +3,6 @@
 
 pub mod declare;
 pub mod item;
-pub mod pragma;
 pub mod simple;
 pub mod stmt;
 pub mod whole;

@@ -9,12 +9,12 @@ ghost use Rattle.cl_parse_expr.specs.declared.cursor.Fixed.TheVariants as fixed;
 ghost use Rattle.cl_tree.specs.declared.token.Mark.TheVariants as mark;
 
 use crate::declare::declaration_from;
-use crate::pragma;
 use crate::simple::{boxed, simple_at};
 use cl_base::name::{Name, NoMemory};
 use cl_parse_expr::cursor::{Fixed, after, line_of, wanted};
 use cl_parse_expr::expr::expr_at;
 use cl_parse_expr::stop::Stop;
+use cl_pieces::pieces::copy_pragma;
 use cl_tree::grammar::{Keyword, Piece, Sign};
 use cl_tree::token::{Mark, Pragma};
 use cl_tree::tree::{Act, Declaration, Expr, Stmt};
@@ -231,7 +231,7 @@ fn declare_before(
 fn directive(alloc: Global, line: u32, pragma: &Pragma) -> Result<Boxed<Stmt>, NoMemory>
     ensures { IfOk result (λ s. s ≡ stmt line line (Act.Cle pragma.now)) }
 {
-    boxed(alloc, line, line, Act::Cle(pragma::copy(alloc, pragma)?))
+    boxed(alloc, line, line, Act::Cle(copy_pragma(alloc, pragma)?))
 }
 
 #[cycle(stmt)]
@@ -337,7 +337,7 @@ fn for_at(
 /// One of a block's statements: also a declaration or a directive.
 #[cycle(stmt)]
 #[tactic(auto, unfolding(crate::specs::Stating::listed_of))]
-pub fn listed_at(
+fn listed_at(
     alloc: Global,
     room: usize,
     deep: usize,

@@ -1,52 +1,15 @@
 //! What a source can bring.
 
-ghost use Rattle.std.specs.Prelude.{◌≡◌, ◌||◌, length, true, bytes_eq};
+ghost use Rattle.std.specs.Prelude.{◌≡◌, true};
+ghost use Rattle.std.specs.List.{list_all};
 ghost use Rattle.cl_tree.specs.Words as spec;
+ghost use Rattle.cl_tree.specs.Letters.{is_on_line};
 
 use cl_tree::grammar::Sign;
 use cl_tree::kinds::IntKind;
-use cl_tree::token::Pragma;
+use cl_tree::letters::{is_blank, is_name, is_on_line};
+use cl_tree::token::{Pragma, is_cle_word};
 use cl_tree::words::{is_type_word, keyword};
-
-fn is_letter(byte: u8) -> bool
-    ensures { result ≡ spec.is_letter byte }
-{
-    match byte {
-        b'A'..=b'Z' | b'a'..=b'z' | b'_' => true,
-        _ => false,
-    }
-}
-
-fn is_digit(byte: u8) -> bool
-    ensures { result ≡ spec.is_digit byte }
-{
-    match byte {
-        b'0'..=b'9' => true,
-        _ => false,
-    }
-}
-
-fn letters_and_digits(mut bytes: &[u8]) -> bool
-    ensures { result ≡ spec.each (λ c. spec.is_letter c || spec.is_digit c) bytes.entry.now }
-{
-    while let [first, rest @ ..] = bytes {
-        if !is_letter(*first) && !is_digit(*first) {
-            return false;
-        }
-        bytes = rest;
-    }
-    true
-}
-
-#[tactic(auto, unfolding(cl_tree::specs::Words::is_name))]
-fn is_name(word: &[u8]) -> bool
-    ensures { result ≡ spec.is_name word.now }
-{
-    match word {
-        [first, rest @ ..] => is_letter(*first) && letters_and_digits(rest),
-        [] => false,
-    }
-}
 
 #[tactic(auto, unfolding(cl_tree::specs::Words::is_free))]
 fn is_free(word: &[u8]) -> bool
@@ -69,73 +32,17 @@ pub fn is_literal(value: u64, kind: IntKind) -> bool
     }
 }
 
-fn is_blank(byte: u8) -> bool
-    ensures { result ≡ spec.is_blank byte }
+fn are_on_line(bytes: &[u8]) -> bool
+    ensures { result ≡ list_all is_on_line bytes.now }
 {
-    match byte {
-        b' ' | b'\t' | b'\r' => true,
-        _ => false,
-    }
-}
-
-fn is_on_line(byte: u8) -> bool
-    ensures { result ≡ spec.on_line byte }
-{
-    match byte {
-        b'\t' | b'\r' | b' '..=b'~' => true,
-        _ => false,
-    }
-}
-
-fn stands_on_line(mut bytes: &[u8]) -> bool
-    ensures { result ≡ spec.each spec.on_line bytes.entry.now }
-{
-    while let [first, rest @ ..] = bytes {
-        if !is_on_line(*first) {
-            return false;
-        }
-        bytes = rest;
-    }
-    true
-}
-
-fn begins_well(text: &[u8]) -> bool
-    ensures { result ≡ spec.begins_well text.now }
-{
-    match text {
-        [first, ..] => !is_blank(*first),
-        [] => false,
-    }
-}
-
-#[tactic(auto, using(crate::proofs::Ends::ends_at))]
-fn ends_well(text: &[u8]) -> bool
-    ensures { result ≡ spec.ends_well text.now }
-{
-    match text.last() {
-        Some(last) => !is_blank(*last),
-        None => false,
-    }
+    bytes.iter().all(|byte| is_on_line(*byte))
 }
 
 #[tactic(auto, unfolding(cl_tree::specs::Words::is_definition))]
 fn is_definition(text: &[u8]) -> bool
     ensures { result ≡ spec.is_definition text.now }
 {
-    stands_on_line(text) && begins_well(text) && ends_well(text)
-}
-
-fn same(a: &[u8], b: &[u8]) -> bool
-    ensures { result ≡ bytes_eq a.now b.now }
-{
-    a == b
-}
-
-#[tactic(auto, unfolding(cl_tree::specs::Words::is_directive))]
-fn is_directive(word: &[u8]) -> bool
-    ensures { result ≡ spec.is_directive word.now }
-{
-    same(b"def", word) || same(b"begin", word) || same(b"end", word)
+    !text.is_empty() && !is_blank(text[0]) && !is_blank(text[text.len() - 1]) && are_on_line(text)
 }
 
 #[tactic(auto, unfolding(cl_tree::specs::Words::is_pragma))]
@@ -145,7 +52,7 @@ fn is_pragma(pragma: &Pragma) -> bool
     match pragma {
         Pragma::Def(name, text) => is_name(name.as_bytes()) && is_definition(text.as_slice()),
         Pragma::Begin(name) | Pragma::End(name) => is_name(name.as_bytes()),
-        Pragma::Next(name) => is_name(name.as_bytes()) && !is_directive(name.as_bytes()),
+        Pragma::Next(name) => is_name(name.as_bytes()) && !is_cle_word(name.as_bytes()),
     }
 }
 
@@ -160,7 +67,7 @@ fn letter_comes(byte: u8) -> bool
 /// Any bytes can stand in a string literal.
 #[tactic(auto, using(crate::proofs::Ends::bytes_come))]
 fn text_comes(bytes: &[u8]) -> bool
-    ensures { result ≡ spec.each spec.is_byte bytes.now }
+    ensures { result ≡ list_all spec.is_byte bytes.now }
 {
     true
 }

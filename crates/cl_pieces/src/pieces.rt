@@ -56,8 +56,9 @@ fn run(alloc: Global, first: &Lexeme, tokens: &[Token]) -> Result<Sign, NoMemory
     Ok(spelled_type(text.as_slice()))
 }
 
-fn directive(alloc: Global, pragma: &Pragma) -> Result<Pragma, NoMemory>
-    ensures { IfOk result (λ p. p ≡ pragma.now) }
+/// Another value of the same directive.
+pub fn copy_pragma(alloc: Global, pragma: &Pragma) -> Result<Pragma, NoMemory>
+    ensures { IfOk result (λ copy. copy ≡ pragma.now) }
 {
     match pragma {
         Pragma::Def(name, text) => {
@@ -84,7 +85,7 @@ fn single(alloc: Global, what: &Lexeme) -> Result<Sign, NoMemory>
         Lexeme::Letter(byte) => Ok(Sign::Letter(*byte)),
         Lexeme::Text(bytes) => Ok(Sign::Text(bytes.copy(alloc)?)),
         Lexeme::Mark(mark) => Ok(Sign::Mark(*mark)),
-        Lexeme::Cle(pragma) => Ok(Sign::Cle(directive(alloc, pragma)?)),
+        Lexeme::Cle(pragma) => Ok(Sign::Cle(copy_pragma(alloc, pragma)?)),
     }
 }
 

@@ -5,3 +5,4 @@ pub mod StatementParts
 pub mod ItemParts
 pub mod Differences
 pub mod Numbers
+pub mod Cuts

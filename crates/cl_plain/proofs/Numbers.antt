@@ -2,8 +2,9 @@
 use Rattle.std.proofs.Common.{◌≡◌, pos, negsuc, Ok, Err, refl}
 use Rattle.cl_tree.specs.declared.kinds.IntKind.TheVariants.{I8, U16, I32, U32}
 use Rattle.cl_tree.specs.declared.kinds.BinOp.TheVariants.{Left, Right, Sub, Div, Rem}
+use Rattle.cl_tree.specs.declared.kinds.UnOp.TheVariants.{Minus, Flip}
 use Rattle.cl_tree.specs.declared.kinds.TrapCause.TheVariants.{Overflow, Shift}
-use Rattle.cl_tree.specs.Arithmetic.{width, is_signed, least, beyond, fits, residue, value, settled, is_zero, can_shift, shifted_left, shifted_right, quotient, remainder, apply}
+use Rattle.cl_tree.specs.Arithmetic.{width, is_signed, least, beyond, fits, residue, value, settled, is_zero, can_shift, shifted_left, shifted_right, quotient, remainder, apply, apply_one, all_ones, letter_value}
 
 pub to_char_is : value I8 (pos 200) ≡ negsuc 55
 unfolding width is_signed least beyond fits residue value settled is_zero can_shift shifted_left shifted_right quotient remainder apply
@@ -48,3 +49,21 @@ unfolding width is_signed least beyond fits residue value settled is_zero can_sh
 below_zero_is = refl
 
 pub ruleset wrapped = (below_zero_is, below_zero_is)
+
+pub least_negated_is : apply_one Minus I32 (negsuc 2147483647) ≡ Err Overflow
+unfolding width is_signed least beyond fits residue value settled is_zero apply_one
+least_negated_is = refl
+
+pub unsigned_negated_is : apply_one Minus U32 (pos 1) ≡ Ok (pos 4294967295)
+unfolding width is_signed least beyond fits residue value settled is_zero apply_one
+unsigned_negated_is = refl
+
+pub flipped_is : apply_one Flip I32 (pos 5) ≡ Ok (negsuc 5)
+unfolding width is_signed least beyond fits residue value settled is_zero all_ones apply_one
+flipped_is = refl
+
+pub letter_is : letter_value 255 ≡ negsuc 0
+unfolding width is_signed least beyond fits residue value letter_value
+letter_is = refl
+
+pub ruleset signs = (least_negated_is, unsigned_negated_is, flipped_is, letter_is)

@@ -46,17 +46,17 @@ type_then lines t second rest =
 pub ruleset type_rules = (common_steps, type_is)
 
 -- a cast's type is its parentheses and its type
-pub cast_is : (line : ℕ) (t : CType) (second : ℕ)
-    → cast_part line t second ≡ mark_on (line ∷ other_line t second) mark.OpenParen (type_part [] t second ++ put_mark mark.CloseParen [])
+pub cast_is : (lines : List ℕ) (t : CType) (second : ℕ)
+    → cast_part lines t second ≡ mark_on (lines ++ other_line t second) mark.OpenParen (type_part [] t second ++ put_mark mark.CloseParen [])
 unfolding cast_part other_line
-cast_is line t second =
-    ap (λ (s : Spelling). mark_on (line ∷ other_lines (held_by t) second) mark.OpenParen s) (type_then [] t second _)
+cast_is lines t second =
+    ap (λ (s : Spelling). mark_on (lines ++ other_lines (held_by t) second) mark.OpenParen s) (type_then [] t second _)
 
 pub ruleset cast_rules = (common_steps, cast_is)
 
-pub cast_then : (line : ℕ) (t : CType) (second : ℕ) (rest : Spelling)
-    → mark_on (line ∷ other_lines (held_by t) second) mark.OpenParen (type_name [] t second (put_mark mark.CloseParen rest)) ≡ cast_part line t second ++ rest
+pub cast_then : (lines : List ℕ) (t : CType) (second : ℕ) (rest : Spelling)
+    → mark_on (lines ++ other_lines (held_by t) second) mark.OpenParen (type_name [] t second (put_mark mark.CloseParen rest)) ≡ cast_part lines t second ++ rest
 unfolding cast_part
-cast_then line t second rest =
-    ap (λ (s : Spelling). mark_on (line ∷ other_lines (held_by t) second) mark.OpenParen s)
+cast_then lines t second rest =
+    ap (λ (s : Spelling). mark_on (lines ++ other_lines (held_by t) second) mark.OpenParen s)
     (type_then [] t second _ ∙ sym (ap (λ (s : Spelling). s ++ rest) (type_then [] t second (put_mark mark.CloseParen [])) ∙ append_assoc _ _ rest))

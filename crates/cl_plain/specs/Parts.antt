@@ -27,9 +27,9 @@ dims_part ns = dims_then ns []
 unfoldable pub type_part : List ℕ → CType → ℕ → Spelling
 type_part lines t second = type_name lines t second []
 
--- the type of a cast, with its parentheses
-unfoldable pub cast_part : ℕ → CType → ℕ → Spelling
-cast_part line t second = mark_on (line ∷ other_lines (held_by t) second) mark.OpenParen (type_name [] t second (put_mark mark.CloseParen []))
+-- the type of a cast, with its parentheses; the lines are those of the first
+unfoldable pub cast_part : List ℕ → CType → ℕ → Spelling
+cast_part lines t second = mark_on (lines ++ other_lines (held_by t) second) mark.OpenParen (type_name [] t second (put_mark mark.CloseParen []))
 
 -- the second line of a type's node, where a star has it, the floating type or another piece
 unfoldable pub star_line : CType → ℕ → List ℕ

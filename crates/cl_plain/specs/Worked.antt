@@ -1,5 +1,5 @@
 -- Small trees, each on one line.
-use Rattle.std.specs.Prelude.{ℕ, [], Option, Some, None}
+use Rattle.std.specs.Prelude.{ℕ, [], ◌∷◌, Option, Some, None}
 use Rattle.cl_tree.specs.declared.kinds.IntKind.TheVariants.{I32}
 use Rattle.cl_tree.specs.declared.kinds.BinOp.TheVariants.{Sub}
 use Rattle.cl_tree.specs.declared.token.Mark.TheVariants.{Minus}
@@ -9,7 +9,7 @@ use Rattle.cl_tree.specs.declared.tree.Node.{Node}
 use Rattle.cl_tree.specs.declared.tree.Node.TheVariants as node
 use Rattle.cl_tree.specs.declared.tree.Stmt.{Stmt}
 use Rattle.cl_tree.specs.declared.tree.Act.TheVariants as act
-use Rattle.cl_tree.specs.Spelling.{Spelling, put_at, mark_at}
+use Rattle.cl_tree.specs.Spelling.{Spelling, put_on, mark_at}
 
 abbrev pub expr_on : ℕ → Node → Expr
 expr_on line n = record { line = line; second = line; node = n }
@@ -28,12 +28,21 @@ right_first line = difference line (number line 1) (difference line (number line
 abbrev pub left_first : ℕ → Expr
 left_first line = difference line (difference line (number line 1) (number line 2)) (number line 3)
 
-abbrev pub literal : ℕ → ℕ → Spelling → Spelling
-literal line value rest = put_at line (sign.Integer value I32) rest
+-- 1 - 2, with any lines
+abbrev pub on_lines : ℕ → ℕ → ℕ → ℕ → ℕ → ℕ → Expr
+on_lines a b c d e f = record {
+  line = a;
+  second = b;
+  node = node.Binary Sub (record { line = c; second = d; node = node.Number 1 I32 }) (record { line = e; second = f; node = node.Number 2 I32 });
+}
 
--- 1 - 2 - 3
+-- a piece of one node, which has the line twice
+abbrev pub literal : ℕ → ℕ → Spelling → Spelling
+literal line value rest = put_on (line ∷ line ∷ []) (sign.Integer value I32) rest
+
+-- 1 - 2 - 3; the first piece has the lines of the two differences too
 abbrev pub in_a_row : ℕ → Spelling
-in_a_row line = literal line 1 (mark_at line Minus (literal line 2 (mark_at line Minus (literal line 3 []))))
+in_a_row line = put_on (line ∷ line ∷ line ∷ line ∷ []) (sign.Integer 1 I32) (mark_at line Minus (literal line 2 (mark_at line Minus (literal line 3 []))))
 
 abbrev pub if_on : ℕ → Expr → Stmt → Option Stmt → Stmt
 if_on line c a b = record { line = line; second = line; node = act.If c a b }

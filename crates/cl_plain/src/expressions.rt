@@ -1,11 +1,11 @@
 //! How expressions are spelled, and which are well-formed.
 
-ghost use Rattle.std.specs.Prelude.{◌≡◌, ◌++◌, map, OnOk, IfOk};
-ghost use Rattle.cl_tree.specs.Spelling.{shape, commas, all_proper, binds, unary_mark, binary_mark};
+ghost use Rattle.std.specs.Prelude.{◌≡◌, ◌++◌, [], ◌∷◌, map, OnOk, IfOk};
+ghost use Rattle.cl_tree.specs.Spelling.{shape, put_on, first_on, commas, all_proper, binds, unary_mark, binary_mark};
 ghost use Rattle.cl_plain.specs.Wanting.{written};
 
 use crate::types::{is_type_name, write_cast};
-use crate::wanted::{Wanted, write_at, write_mark, write_mark_at, write_name, write_name_at};
+use crate::wanted::{Wanted, write_mark, write_mark_at, write_name, write_on};
 use cl_base::name::NoMemory;
 use cl_tree::grammar::Sign;
 use cl_tree::kinds::{BinOp, UnOp};
@@ -87,70 +87,105 @@ pub fn level(e: &Expr) -> u32
     }
 }
 
+/// Writes the first piece of an expression, which stands on further lines and on both of the node's.
+fn write_begin(
+    out: &mut Items<Wanted>,
+    lines: Items<u32>,
+    e: &Expr,
+    what: Sign,
+) -> Result<(), NoMemory>
+    ensures { OnOk result (written out.new ≡ written out.old ++ put_on (lines ++ e.now.line ∷ e.now.second ∷ []) what []) }
+{
+    let mut lines = lines;
+    lines.push(e.line)?;
+    lines.push(e.second)?;
+    write_on(out, lines, what)
+}
+
+/// One line more.
+fn further(lines: Items<u32>, line: u32) -> Result<Items<u32>, NoMemory>
+    ensures { IfOk result (λ all. all ≡ lines ++ line ∷ []) }
+{
+    let mut all = lines;
+    all.push(line)?;
+    Ok(all)
+}
+
 /// Writes an expression.
 #[cycle(spell)]
-#[tactic(auto, unfolding(cl_tree::specs::Spelling::shape))]
+#[tactic(auto, using(crate::proofs::Shapes::first_none))]
 pub fn write_expr(alloc: Global, out: &mut Items<Wanted>, e: &Expr) -> Result<(), NoMemory>
     ensures { OnOk result (written out.new ≡ written out.old ++ (shape e.now).spelling) }
 {
+    write_expr_on(alloc, out, Items::new(alloc), e)
+}
+
+/// Writes an expression, whose first piece stands on further lines.
+#[cycle(spell)]
+#[tactic(auto, unfolding(cl_tree::specs::Spelling::shape))]
+pub fn write_expr_on(
+    alloc: Global,
+    out: &mut Items<Wanted>,
+    lines: Items<u32>,
+    e: &Expr,
+) -> Result<(), NoMemory>
+    ensures { OnOk result (written out.new ≡ written out.old ++ first_on lines (shape e.now).spelling) }
+{
     match &e.node {
-        Node::Number { value, kind } => write_at(
-            alloc,
-            out,
-            e.line,
-            Sign::Integer {
-                value: *value,
-                kind: *kind,
-            },
-        ),
-        Node::Real => write_at(alloc, out, e.line, Sign::Floating),
-        Node::Letter(byte) => write_at(alloc, out, e.line, Sign::Letter(*byte)),
-        Node::Text(bytes) => write_at(alloc, out, e.line, Sign::Text(bytes.copy(alloc)?)),
-        Node::Variable(name) => write_name_at(alloc, out, e.line, name),
+        Node::Number { value, kind } => {
+            let (value, kind) = (*value, *kind);
+            write_begin(out, lines, e, Sign::Integer { value, kind })
+        }
+        Node::Real => write_begin(out, lines, e, Sign::Floating),
+        Node::Letter(byte) => write_begin(out, lines, e, Sign::Letter(*byte)),
+        Node::Text(bytes) => write_begin(out, lines, e, Sign::Text(bytes.copy(alloc)?)),
+        Node::Variable(name) => write_begin(out, lines, e, Sign::Name(name.copy(alloc)?)),
         Node::Unary(op, inner) => {
-            write_mark_at(alloc, out, e.line, unary_mark(*op))?;
+            write_begin(out, lines, e, Sign::Mark(unary_mark(*op)))?;
             write_expr(alloc, out, inner.get())
         }
         Node::Binary(op, left, right) => {
-            write_expr(alloc, out, left.get())?;
+            write_expr_on(alloc, out, further(lines, e.line)?, left.get())?;
             write_mark_at(alloc, out, e.second, binary_mark(*op))?;
             write_expr(alloc, out, right.get())
         }
         Node::Choice(test, first, other) => {
-            write_expr(alloc, out, test.get())?;
+            let lines = further(further(lines, e.line)?, e.second)?;
+            write_expr_on(alloc, out, lines, test.get())?;
             write_mark(alloc, out, Mark::Question)?;
             write_expr(alloc, out, first.get())?;
             write_mark(alloc, out, Mark::Colon)?;
             write_expr(alloc, out, other.get())
         }
         Node::Cast(to, inner) => {
-            write_cast(alloc, out, e.line, to, e.second)?;
+            write_cast(alloc, out, further(lines, e.line)?, to, e.second)?;
             write_expr(alloc, out, inner.get())
         }
         Node::Call(name, arguments) => {
-            write_name_at(alloc, out, e.line, name)?;
+            write_begin(out, lines, e, Sign::Name(name.copy(alloc)?))?;
             write_mark(alloc, out, Mark::OpenParen)?;
             write_arguments(alloc, out, arguments.as_slice())?;
             write_mark(alloc, out, Mark::CloseParen)
         }
         Node::Index(base, index) => {
-            write_expr(alloc, out, base.get())?;
+            write_expr_on(alloc, out, further(lines, e.line)?, base.get())?;
             write_mark_at(alloc, out, e.second, Mark::OpenBracket)?;
             write_expr(alloc, out, index.get())?;
             write_mark(alloc, out, Mark::CloseBracket)
         }
         Node::Member(base, name) => {
-            write_expr(alloc, out, base.get())?;
+            let lines = further(further(lines, e.line)?, e.second)?;
+            write_expr_on(alloc, out, lines, base.get())?;
             write_mark(alloc, out, Mark::Dot)?;
             write_name(alloc, out, name)
         }
         Node::Arrow(base, name) => {
-            write_expr(alloc, out, base.get())?;
+            write_expr_on(alloc, out, further(lines, e.line)?, base.get())?;
             write_mark_at(alloc, out, e.second, Mark::Arrow)?;
             write_name(alloc, out, name)
         }
         Node::Paren(inner) => {
-            write_mark_at(alloc, out, e.line, Mark::OpenParen)?;
+            write_begin(out, lines, e, Sign::Mark(Mark::OpenParen))?;
             write_expr(alloc, out, inner.get())?;
             write_mark(alloc, out, Mark::CloseParen)
         }
@@ -181,60 +216,35 @@ pub fn spelled_expr(alloc: Global, e: &Expr) -> Result<Items<Wanted>, NoMemory>
     Ok(out)
 }
 
-/// The line of the expression's first piece.
-#[tactic(auto, using(crate::proofs::Shapes::line_is))]
-pub fn first_line(e: &Expr) -> u32
-    ensures { result ≡ (shape e.now).line }
-{
-    e.line
-}
-
-/// Whether the expression has a form of the grammar: its operands bind as tightly as their places ask,
-/// and it keeps the lines of the pieces that it is to keep.
+/// Whether the expression has a form of the grammar: its operands bind as tightly as their places ask.
 #[cycle(proper)]
 #[tactic(auto, unfolding(cl_tree::specs::Spelling::shape))]
 pub fn well_formed_expr(e: &Expr) -> bool
     ensures { result ≡ (shape e.now).proper }
 {
     match &e.node {
-        Node::Number { .. } => e.second == e.line,
-        Node::Real => e.second == e.line,
-        Node::Letter(_) => e.second == e.line,
-        Node::Text(_) => e.second == e.line,
-        Node::Variable(_) => e.second == e.line,
-        Node::Unary(_, inner) => {
-            e.second == e.line && (12 <= level(inner.get()) && well_formed_expr(inner.get()))
-        }
+        Node::Unary(_, inner) => 12 <= level(inner.get()) && well_formed_expr(inner.get()),
         Node::Binary(op, left, right) => {
-            e.line == first_line(left.get())
-                && ((binds(*op) <= level(left.get()) && binds(*op) < level(right.get()))
-                    && (well_formed_expr(left.get()) && well_formed_expr(right.get())))
+            (binds(*op) <= level(left.get()) && binds(*op) < level(right.get()))
+                && (well_formed_expr(left.get()) && well_formed_expr(right.get()))
         }
         Node::Choice(test, first, other) => {
-            e.line == first_line(test.get())
-                && (e.second == e.line
-                    && (2 <= level(test.get())
-                        && (well_formed_expr(test.get())
-                            && (well_formed_expr(first.get()) && well_formed_expr(other.get())))))
+            2 <= level(test.get())
+                && (well_formed_expr(test.get())
+                    && (well_formed_expr(first.get()) && well_formed_expr(other.get())))
         }
         Node::Cast(to, inner) => {
             is_type_name(to) && (12 <= level(inner.get()) && well_formed_expr(inner.get()))
         }
-        Node::Call(_, arguments) => e.second == e.line && all_proper(arguments.as_slice()),
+        Node::Call(_, arguments) => all_proper(arguments.as_slice()),
         Node::Index(base, index) => {
-            e.line == first_line(base.get())
-                && (14 <= level(base.get())
-                    && (well_formed_expr(base.get()) && well_formed_expr(index.get())))
+            14 <= level(base.get())
+                && (well_formed_expr(base.get()) && well_formed_expr(index.get()))
         }
-        Node::Member(base, _) => {
-            e.line == first_line(base.get())
-                && (e.second == e.line && (14 <= level(base.get()) && well_formed_expr(base.get())))
-        }
-        Node::Arrow(base, _) => {
-            e.line == first_line(base.get())
-                && (14 <= level(base.get()) && well_formed_expr(base.get()))
-        }
-        Node::Paren(inner) => e.second == e.line && well_formed_expr(inner.get()),
+        Node::Member(base, _) => 14 <= level(base.get()) && well_formed_expr(base.get()),
+        Node::Arrow(base, _) => 14 <= level(base.get()) && well_formed_expr(base.get()),
+        Node::Paren(inner) => well_formed_expr(inner.get()),
+        _ => true,
     }
 }
 

@@ -3,7 +3,7 @@
 ghost use Rattle.std.specs.Prelude.{◌≡◌, ◌++◌, [], map, IsTrue, ◌↔◌, IfOk, OnOk};
 ghost use Rattle.std.specs.List.{flat_map};
 ghost use Rattle.cl_tree.specs.Spelling.{put_on, put_mark, is_empty};
-ghost use Rattle.cl_tree.specs.Items.{member, is_member, all_members, parameter, all_parameters, is_body, item_spelling, is_item, is_well_formed, WellFormed};
+ghost use Rattle.cl_tree.specs.Items.{member, is_member, all_members, parameter, all_parameters, is_body, item_spelling, program_spelling, is_item, is_well_formed, WellFormed};
 ghost use Rattle.cl_tree.specs.Spelling.{commas};
 ghost use Rattle.cl_plain.specs.Wanting.{written, all_well_formed};
 ghost use Rattle.cl_plain.specs.Parts.{other_all, other_line, head_part, parameters_part, body_part, named_part};
@@ -12,7 +12,7 @@ use crate::declarations::{
     add_base_lines, add_first_lines, are_names, is_declarator, well_formed_declaration,
     write_common_base, write_declaration, write_declarator, write_declarators,
 };
-use crate::statements::{all_stmts, write_pragma_at, write_statements};
+use crate::statements::{all_stmts, write_pragma, write_statements};
 use crate::types::{
     add_floating_line, add_other_line, is_type_name, is_void, write_base, write_type,
 };
@@ -200,14 +200,17 @@ pub fn write_item(alloc: Global, out: &mut Items<Wanted>, item: &Item) -> Result
             write_named(alloc, out, returned, name, *void_word, names, *second)?;
             write_body(alloc, out, body)
         }
-        Item::Cle(pragma, line) => write_pragma_at(alloc, out, *line, pragma),
+        Item::Cle(pragma, line) => {
+            let lines = one_line(alloc, *line)?;
+            write_pragma(alloc, out, lines, pragma)
+        }
     }
 }
 
-/// The pieces that the items of a program want, in order.
-#[tactic(auto, unfolding(crate::specs::Wanting::written))]
+/// The pieces that a program wants.
+#[tactic(auto, unfolding(crate::specs::Wanting::written, cl_tree::specs::Items::program_spelling))]
 pub fn spelled(alloc: Global, program: &Program) -> Result<Items<Wanted>, NoMemory>
-    ensures { IfOk result (λ pieces. written pieces ≡ flat_map item_spelling program.now.items) }
+    ensures { IfOk result (λ pieces. written pieces ≡ program_spelling program.now) }
 {
     let mut out = Items::new(alloc);
     write_items(alloc, &mut out, program.items.as_slice())?;

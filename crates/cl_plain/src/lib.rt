@@ -7,8 +7,6 @@ pub mod examples;
 pub mod expressions;
 pub mod items;
 pub mod statements;
-#[cfg(test)]
-mod tests;
 mod types;
 pub mod wanted;
 mod words;

@@ -1,17 +1,16 @@
 //! How statements are spelled, and which are well-formed.
 
-ghost use Rattle.std.specs.Prelude.{◌≡◌, ◌++◌, [], map, option_map, IfOk, OnOk};
-ghost use Rattle.cl_tree.specs.Spelling.{shape, put_at, put_mark};
+ghost use Rattle.std.specs.Prelude.{◌≡◌, ◌++◌, [], ◌∷◌, map, option_map, OnOk};
+ghost use Rattle.cl_tree.specs.Spelling.{shape, put_on, put_mark};
 ghost use Rattle.cl_tree.specs.Statements.{stmt_shape, statements, all_stmts, assign_mark, assigns, bump_mark, is_call, is_statement, is_simple, is_head, is_first, is_test, is_next};
 ghost use Rattle.cl_plain.specs.Wanting.{written};
 ghost use Rattle.cl_plain.specs.Parts.{first_part, test_part, next_part, else_part};
 
 use crate::declarations::{well_formed_declaration, write_declaration};
-use crate::expressions::{level, well_formed_expr, write_expr};
-use crate::wanted::{
-    Wanted, one_line, write_at, write_key, write_key_at, write_mark, write_mark_at,
-};
+use crate::expressions::{level, well_formed_expr, write_expr, write_expr_on};
+use crate::wanted::{Wanted, one_line, two_lines, write_key, write_mark, write_mark_at, write_on};
 use cl_base::name::NoMemory;
+use cl_pieces::pieces::copy_pragma;
 use cl_tree::grammar::{Keyword, Sign};
 use cl_tree::kinds::BinOp;
 use cl_tree::token::{Mark, Pragma};
@@ -62,28 +61,25 @@ pub fn bump_mark(up: bool) -> Mark
     if up { Mark::PlusPlus } else { Mark::MinusMinus }
 }
 
-/// Writes a line `#pragma cle`, which stands on this line.
-pub fn write_pragma_at(
+/// Writes a line `#pragma cle`, which stands on these lines.
+pub fn write_pragma(
     alloc: Global,
     out: &mut Items<Wanted>,
-    line: u32,
+    lines: Items<u32>,
     pragma: &Pragma,
 ) -> Result<(), NoMemory>
-    ensures { OnOk result (written out.new ≡ written out.old ++ put_at line (Sign.Cle pragma.now) []) }
+    ensures { OnOk result (written out.new ≡ written out.old ++ put_on lines (Sign.Cle pragma.now) []) }
 {
     let pragma = copy_pragma(alloc, pragma)?;
-    write_at(alloc, out, line, Sign::Cle(pragma))
+    write_on(out, lines, Sign::Cle(pragma))
 }
 
-fn copy_pragma(alloc: Global, pragma: &Pragma) -> Result<Pragma, NoMemory>
-    ensures { IfOk result (λ copy. copy ≡ pragma.now) }
+/// Writes the first piece of a statement, which stands on both of its lines.
+fn write_begin(alloc: Global, out: &mut Items<Wanted>, s: &Stmt, what: Sign) -> Result<(), NoMemory>
+    ensures { OnOk result (written out.new ≡ written out.old ++ put_on (s.now.line ∷ s.now.second ∷ []) what []) }
 {
-    match pragma {
-        Pragma::Def(name, text) => Ok(Pragma::Def(name.copy(alloc)?, text.copy(alloc)?)),
-        Pragma::Begin(name) => Ok(Pragma::Begin(name.copy(alloc)?)),
-        Pragma::End(name) => Ok(Pragma::End(name.copy(alloc)?)),
-        Pragma::Next(name) => Ok(Pragma::Next(name.copy(alloc)?)),
-    }
+    let lines = two_lines(alloc, s.line, s.second)?;
+    write_on(out, lines, what)
 }
 
 /// Writes what stands before the `;` of a simple statement or a declaration, and nothing of another.
@@ -93,7 +89,7 @@ pub fn write_bare(alloc: Global, out: &mut Items<Wanted>, s: &Stmt) -> Result<()
 {
     match &s.node {
         Act::Set { op, place, value } => {
-            write_expr(alloc, out, place)?;
+            write_expr_on(alloc, out, one_line(alloc, s.line)?, place)?;
             write_mark_at(alloc, out, s.second, assign_mark(op))?;
             write_expr(alloc, out, value)
         }
@@ -102,7 +98,7 @@ pub fn write_bare(alloc: Global, out: &mut Items<Wanted>, s: &Stmt) -> Result<()
             prefix: true,
             place,
         } => {
-            write_mark_at(alloc, out, s.line, bump_mark(*up))?;
+            write_begin(alloc, out, s, Sign::Mark(bump_mark(*up)))?;
             write_expr(alloc, out, place)
         }
         Act::Bump {
@@ -110,12 +106,12 @@ pub fn write_bare(alloc: Global, out: &mut Items<Wanted>, s: &Stmt) -> Result<()
             prefix: false,
             place,
         } => {
-            write_expr(alloc, out, place)?;
+            write_expr_on(alloc, out, one_line(alloc, s.line)?, place)?;
             write_mark_at(alloc, out, s.second, bump_mark(*up))
         }
-        Act::Call(e) => write_expr(alloc, out, e),
+        Act::Call(e) => write_expr_on(alloc, out, two_lines(alloc, s.line, s.second)?, e),
         Act::Declare(d) => {
-            let lines = one_line(alloc, s.line)?;
+            let lines = two_lines(alloc, s.line, s.second)?;
             write_declaration(alloc, out, lines, d)
         }
         _ => Ok(()),
@@ -175,9 +171,9 @@ pub fn write_stmt(alloc: Global, out: &mut Items<Wanted>, s: &Stmt) -> Result<()
     ensures { OnOk result (written out.new ≡ written out.old ++ (stmt_shape s.now).spelling) }
 {
     match &s.node {
-        Act::Empty => write_mark_at(alloc, out, s.line, Mark::Semicolon),
+        Act::Empty => write_begin(alloc, out, s, Sign::Mark(Mark::Semicolon)),
         Act::Block(all) => {
-            write_mark_at(alloc, out, s.line, Mark::OpenBrace)?;
+            write_begin(alloc, out, s, Sign::Mark(Mark::OpenBrace))?;
             write_statements(alloc, out, all.as_slice())
         }
         Act::Set { .. } => write_ended(alloc, out, s),
@@ -185,18 +181,18 @@ pub fn write_stmt(alloc: Global, out: &mut Items<Wanted>, s: &Stmt) -> Result<()
         Act::Call(_) => write_ended(alloc, out, s),
         Act::Declare(_) => write_ended(alloc, out, s),
         Act::If(test, first, other) => {
-            write_key_at(alloc, out, s.line, Keyword::If)?;
+            write_begin(alloc, out, s, Sign::Key(Keyword::If))?;
             write_test(alloc, out, test)?;
             write_stmt(alloc, out, first.get())?;
             write_else(alloc, out, other)
         }
         Act::While(test, body) => {
-            write_key_at(alloc, out, s.line, Keyword::While)?;
+            write_begin(alloc, out, s, Sign::Key(Keyword::While))?;
             write_test(alloc, out, test)?;
             write_stmt(alloc, out, body.get())
         }
         Act::DoWhile(body, test) => {
-            write_key_at(alloc, out, s.line, Keyword::Do)?;
+            write_begin(alloc, out, s, Sign::Key(Keyword::Do))?;
             write_stmt(alloc, out, body.get())?;
             write_key(alloc, out, Keyword::While)?;
             write_test(alloc, out, test)?;
@@ -208,7 +204,7 @@ pub fn write_stmt(alloc: Global, out: &mut Items<Wanted>, s: &Stmt) -> Result<()
             next,
             body,
         } => {
-            write_key_at(alloc, out, s.line, Keyword::For)?;
+            write_begin(alloc, out, s, Sign::Key(Keyword::For))?;
             write_mark(alloc, out, Mark::OpenParen)?;
             write_first(alloc, out, first)?;
             write_maybe_expr(alloc, out, test)?;
@@ -218,19 +214,22 @@ pub fn write_stmt(alloc: Global, out: &mut Items<Wanted>, s: &Stmt) -> Result<()
             write_stmt(alloc, out, body.get())
         }
         Act::Return(e) => {
-            write_key_at(alloc, out, s.line, Keyword::Return)?;
+            write_begin(alloc, out, s, Sign::Key(Keyword::Return))?;
             write_maybe_expr(alloc, out, e)?;
             write_mark(alloc, out, Mark::Semicolon)
         }
         Act::Break => {
-            write_key_at(alloc, out, s.line, Keyword::Break)?;
+            write_begin(alloc, out, s, Sign::Key(Keyword::Break))?;
             write_mark(alloc, out, Mark::Semicolon)
         }
         Act::Continue => {
-            write_key_at(alloc, out, s.line, Keyword::Continue)?;
+            write_begin(alloc, out, s, Sign::Key(Keyword::Continue))?;
             write_mark(alloc, out, Mark::Semicolon)
         }
-        Act::Cle(pragma) => write_pragma_at(alloc, out, s.line, pragma),
+        Act::Cle(pragma) => {
+            let lines = two_lines(alloc, s.line, s.second)?;
+            write_pragma(alloc, out, lines, pragma)
+        }
     }
 }
 
@@ -356,55 +355,35 @@ fn is_test(test: &Option<Expr>) -> bool
     }
 }
 
-/// Whether the statement has a form of the grammar, and keeps the lines of the pieces that it is to
-/// keep. It may still be one that stands only in a block, as a declaration.
+/// Whether the statement has a form of the grammar. It may still be one that stands only in a block, as
+/// a declaration.
 #[cycle(proper)]
 #[tactic(auto, unfolding(cl_tree::specs::Statements::stmt_shape))]
 pub fn well_formed_stmt(s: &Stmt) -> bool
     ensures { result ≡ (stmt_shape s.now).proper }
 {
     match &s.node {
-        Act::Empty => s.second == s.line,
-        Act::Block(all) => s.second == s.line && all_stmts(all.as_slice()),
+        Act::Block(all) => all_stmts(all.as_slice()),
         Act::Set { op, place, value } => {
-            s.line == place.line
-                && (assigns(op)
-                    && (13 <= level(place) && (well_formed_expr(place) && well_formed_expr(value))))
+            assigns(op)
+                && (13 <= level(place) && (well_formed_expr(place) && well_formed_expr(value)))
         }
-        Act::Bump {
-            prefix: true,
-            place,
-            ..
-        } => s.second == s.line && (13 <= level(place) && well_formed_expr(place)),
-        Act::Bump {
-            prefix: false,
-            place,
-            ..
-        } => s.line == place.line && (13 <= level(place) && well_formed_expr(place)),
-        Act::Call(e) => {
-            s.line == e.line && (s.second == s.line && (is_call(e) && well_formed_expr(e)))
-        }
+        Act::Bump { place, .. } => 13 <= level(place) && well_formed_expr(place),
+        Act::Call(e) => is_call(e) && well_formed_expr(e),
         Act::If(test, first, None) => {
-            s.second == s.line
-                && (well_formed_expr(test)
-                    && (is_statement(first.get()) && well_formed_stmt(first.get())))
+            well_formed_expr(test) && (is_statement(first.get()) && well_formed_stmt(first.get()))
         }
         Act::If(test, first, Some(other)) => {
-            s.second == s.line
-                && (well_formed_expr(test)
-                    && (!is_dangling(first.get())
-                        && ((is_statement(first.get()) && well_formed_stmt(first.get()))
-                            && (is_statement(other.get()) && well_formed_stmt(other.get())))))
+            well_formed_expr(test)
+                && (!is_dangling(first.get())
+                    && ((is_statement(first.get()) && well_formed_stmt(first.get()))
+                        && (is_statement(other.get()) && well_formed_stmt(other.get()))))
         }
         Act::While(test, body) => {
-            s.second == s.line
-                && (well_formed_expr(test)
-                    && (is_statement(body.get()) && well_formed_stmt(body.get())))
+            well_formed_expr(test) && (is_statement(body.get()) && well_formed_stmt(body.get()))
         }
         Act::DoWhile(body, test) => {
-            s.second == s.line
-                && ((is_statement(body.get()) && well_formed_stmt(body.get()))
-                    && well_formed_expr(test))
+            (is_statement(body.get()) && well_formed_stmt(body.get())) && well_formed_expr(test)
         }
         Act::For {
             first,
@@ -412,18 +391,14 @@ pub fn well_formed_stmt(s: &Stmt) -> bool
             next,
             body,
         } => {
-            s.second == s.line
-                && (is_first(first)
-                    && (is_test(test)
-                        && (is_next(next)
-                            && (is_statement(body.get()) && well_formed_stmt(body.get())))))
+            is_first(first)
+                && (is_test(test)
+                    && (is_next(next)
+                        && (is_statement(body.get()) && well_formed_stmt(body.get()))))
         }
-        Act::Return(None) => s.second == s.line,
-        Act::Return(Some(e)) => s.second == s.line && well_formed_expr(e),
-        Act::Break => s.second == s.line,
-        Act::Continue => s.second == s.line,
-        Act::Declare(d) => s.second == s.line && well_formed_declaration(d),
-        Act::Cle(_) => s.second == s.line,
+        Act::Return(Some(e)) => well_formed_expr(e),
+        Act::Declare(d) => well_formed_declaration(d),
+        _ => true,
     }
 }
 

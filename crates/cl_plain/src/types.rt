@@ -5,7 +5,7 @@ ghost use Rattle.cl_tree.specs.Spelling.{type_shape, held_by, is_empty, same_bas
 ghost use Rattle.cl_plain.specs.Wanting.{written, holder_of, base_seen};
 ghost use Rattle.cl_plain.specs.Parts.{base_part, stars_part, dims_part, type_part, cast_part, star_line, floating_line, other_line};
 
-use crate::wanted::{Wanted, one_line, write_mark, write_name, write_on, write_size};
+use crate::wanted::{Wanted, write_mark, write_name, write_on, write_size};
 use cl_base::name::{Name, NoMemory};
 use cl_tree::grammar::{Keyword, Sign};
 use cl_tree::kinds::IntKind;
@@ -176,18 +176,19 @@ pub fn write_type(
     write_stars(alloc, out, star_lines, t)
 }
 
-/// Writes the type of a cast in its parentheses.
+/// Writes the type of a cast in its parentheses; `lines` are those of the `(`, beside the second line
+/// of the cast's node where no piece of the type has it.
 #[tactic(auto, using(crate::proofs::Parts::cast_rules))]
 pub fn write_cast(
     alloc: Global,
     out: &mut Items<Wanted>,
-    line: u32,
+    lines: Items<u32>,
     t: &CType,
     second: u32,
 ) -> Result<(), NoMemory>
-    ensures { OnOk result (written out.new ≡ written out.old ++ cast_part line t.now second) }
+    ensures { OnOk result (written out.new ≡ written out.old ++ cast_part lines t.now second) }
 {
-    let mut lines = one_line(alloc, line)?;
+    let mut lines = lines;
     add_other_line(&mut lines, t, second)?;
     write_on(out, lines, Sign::Mark(Mark::OpenParen))?;
     write_type(alloc, out, Items::new(alloc), t, second)?;

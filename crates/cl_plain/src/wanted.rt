@@ -1,7 +1,7 @@
 //! The pieces that a tree wants.
 
 ghost use Rattle.std.specs.Prelude.{◌≡◌, ◌++◌, [], ◌∷◌, OnOk, IfOk};
-ghost use Rattle.cl_tree.specs.Spelling.{put_on, put, put_at, mark_on, mark_at, put_mark, key_on, key_at, put_key, put_size};
+ghost use Rattle.cl_tree.specs.Spelling.{put_on, put, put_at, mark_on, mark_at, put_mark, key_on, put_key, put_size};
 ghost use Rattle.cl_plain.specs.Wanting.{written};
 
 use cl_base::name::{Name, NoMemory};
@@ -61,6 +61,15 @@ pub fn one_line(alloc: Global, line: u32) -> Result<Items<u32>, NoMemory>
     Ok(lines)
 }
 
+/// The two lines of a node.
+pub fn two_lines(alloc: Global, line: u32, second: u32) -> Result<Items<u32>, NoMemory>
+    ensures { IfOk result (λ lines. lines ≡ line ∷ second ∷ []) }
+{
+    let mut lines = one_line(alloc, line)?;
+    lines.push(second)?;
+    Ok(lines)
+}
+
 /// Writes a piece of which no line is kept.
 pub fn write(alloc: Global, out: &mut Items<Wanted>, what: Sign) -> Result<(), NoMemory>
     ensures { OnOk result (written out.new ≡ written out.old ++ put what []) }
@@ -105,18 +114,6 @@ pub fn write_key(alloc: Global, out: &mut Items<Wanted>, key: Keyword) -> Result
     ensures { OnOk result (written out.new ≡ written out.old ++ put_key key []) }
 {
     write(alloc, out, Sign::Key(key))
-}
-
-/// Writes a keyword, which stands on this line.
-pub fn write_key_at(
-    alloc: Global,
-    out: &mut Items<Wanted>,
-    line: u32,
-    key: Keyword,
-) -> Result<(), NoMemory>
-    ensures { OnOk result (written out.new ≡ written out.old ++ key_at line key []) }
-{
-    write_at(alloc, out, line, Sign::Key(key))
 }
 
 /// Writes a name of which no line is kept.

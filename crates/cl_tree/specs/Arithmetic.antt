@@ -7,6 +7,8 @@ use Rattle.cl_tree.specs.declared.kinds.IntKind.{IntKind}
 use Rattle.cl_tree.specs.declared.kinds.IntKind.TheVariants.{I8, U8, I16, U16, I32, U32, Long, ULong, LLong, ULLong}
 use Rattle.cl_tree.specs.declared.kinds.BinOp.{BinOp}
 use Rattle.cl_tree.specs.declared.kinds.BinOp.TheVariants.{Or, And, BitOr, Xor, BitAnd, Equal, Unequal, Less, Greater, AtMost, AtLeast, Left, Right, Add, Sub, Mul, Div, Rem}
+use Rattle.cl_tree.specs.declared.kinds.UnOp.{UnOp}
+use Rattle.cl_tree.specs.declared.kinds.UnOp.TheVariants.{Minus, Plus, Flip, Not, Star, Amp}
 use Rattle.cl_tree.specs.declared.kinds.TrapCause.{TrapCause}
 use Rattle.cl_tree.specs.declared.kinds.TrapCause.TheVariants.{Overflow, Divide, Shift}
 
@@ -105,6 +107,30 @@ apply Sub kind a b = settled kind (a -ℤ b)
 apply Mul kind a b = settled kind (a *ℤ b)
 apply Div kind a b = quotient kind a b
 apply Rem kind a b = remainder kind a b
+
+-- the operators of one number; `*` and `&` are of pointers
+unfoldable pub is_arithmetic : UnOp → Bool
+is_arithmetic Minus = true
+is_arithmetic Plus = true
+is_arithmetic Flip = true
+is_arithmetic Not = true
+is_arithmetic Star = false
+is_arithmetic Amp = false
+
+-- the bits of a kind, all of them 1
+unfoldable pub all_ones : IntKind → ℕ
+all_ones kind = 2 ^ width kind - 1
+
+-- an operator on one value of the kind, which is promoted (C11 6.5.3.3); `~` turns each bit over
+unfoldable pub apply_one : UnOp → IntKind → ℤ → Result ℤ TrapCause
+apply_one Minus kind a = settled kind (pos 0 -ℤ a)
+apply_one Flip kind a = Ok (value kind (pos (bit_xor (residue kind a) (all_ones kind))))
+apply_one Not kind a = Ok (truth (is_zero a))
+apply_one _ kind a = Ok a
+
+-- the value of a character constant of one byte: that of a `char`, which is signed (C11 6.4.4.4)
+unfoldable pub letter_value : ℕ → ℤ
+letter_value byte = value I8 (pos byte)
 
 -- only a shift takes a right operand that need not be of the kind
 unfoldable pub is_shift : BinOp → Bool

@@ -1,28 +1,28 @@
 -- What a directive line means. Its blanks are spaces, tabs, CR and comments.
-use Rattle.std.specs.Prelude.{ℕ, ◌-◌, Bool, true, false, not, ◌&&◌, ◌||◌, ◌==◌, nat_lt, List, [], ◌∷◌, ◌++◌, Option, Some, None, length, take, drop, slice_index, codes, if◌then◌else◌}
+use Rattle.std.specs.Prelude.{ℕ, zero, suc, ◌-◌, Bool, true, false, not, ◌&&◌, ◌||◌, ◌==◌, nat_lt, List, [], ◌∷◌, ◌++◌, Option, Some, None, length, take, drop, slice_index, bytes_eq, codes, if◌then◌else◌}
 use Rattle.std.specs.List.{prefix_len, suffix_len, position}
-use Rattle.std.specs.Str.{bytes_eq}
+use Prim.Native.Char.{code}
 use Rattle.cl_tree.specs.declared.pieces.Part.{Part}
 use Rattle.cl_tree.specs.declared.pieces.Part.TheVariants.{Code, Opened, Inside, ToEnd}
 use Rattle.cl_tree.specs.declared.pieces.Rule.TheVariants.{E02, E05}
-use Rattle.cl_tree.specs.declared.pieces.Spelling.{Spelling}
-use Rattle.cl_tree.specs.declared.pieces.Spelling.TheVariants.{Wrong, Unfit, Holds}
-use Rattle.cl_tree.specs.declared.pieces.Reading.{Reading}
-use Rattle.cl_tree.specs.declared.pieces.Reading.TheVariants.{Blank, Bad, Is, Defines}
+use Rattle.cl_tree.specs.declared.pieces.LiteralValue.{LiteralValue}
+use Rattle.cl_tree.specs.declared.pieces.LiteralValue.TheVariants.{Wrong, Unfit, Holds}
+use Rattle.cl_tree.specs.declared.pieces.PieceMeaning.{PieceMeaning}
+use Rattle.cl_tree.specs.declared.pieces.PieceMeaning.TheVariants.{Blank, Bad, Is, Defines}
 use Rattle.cl_tree.specs.declared.token.Lexeme.TheVariants.{Cle}
 use Rattle.cl_tree.specs.declared.token.Pragma.{Pragma}
 use Rattle.cl_tree.specs.declared.token.Pragma.TheVariants.{Def, Begin, End, Next}
-use Rattle.cl_tree.specs.Pieces.{is_bad, is_letter, is_word}
+use Rattle.cl_tree.specs.Letters.{is_bad, is_blank, is_letter, is_word, is_name}
 use Rattle.cl_tree.specs.Literals.{literal}
-use Rattle.cl_tree.specs.Words.{is_keyword}
+use Rattle.cl_tree.specs.Words.{Word, is_keyword, is_cle_word, listed}
 
 -- Comments become spaces, so that every other byte stays where it is.
 
 -- the part of a line to which byte b leads, where c stands behind it (0 if nothing does)
 unfoldable pub part_after : Part → ℕ → ℕ → Part
-part_after Code b c = if (b == 47) && (c == 42) then Opened else (if (b == 47) && (c == 47) then ToEnd else Code)
+part_after Code b c = if (b == code "/") && (c == code "*") then Opened else (if (b == code "/") && (c == code "/") then ToEnd else Code)
 part_after Opened b c = Inside false
-part_after (Inside star) b c = if star && (b == 47) then Code else Inside (b == 42)
+part_after (Inside star) b c = if star && (b == code "/") then Code else Inside (b == code "*")
 part_after ToEnd b c = ToEnd
 
 abbrev pub is_code : Part → Bool
@@ -40,17 +40,14 @@ is_open ToEnd = false
 
 -- a byte that is in no comment stays
 unfoldable pub shown : Part → Part → ℕ → ℕ
-shown before after b = if is_code before && is_code after then b else 32
+shown before after b = if is_code before && is_code after then b else code " "
 
 -- the line behind what is done, its comments as spaces; None if a comment goes on behind its end
 abbrev pub blanked : Part → List ℕ → List ℕ → Option (List ℕ)
 blanked part done [] = if is_open part then None else Some done
 blanked part done (b ∷ bs) = blanked (part_after part b (slice_index bs 0)) (done ++ shown part (part_after part b (slice_index bs 0)) b ∷ []) bs
 
--- Names and blanks.
-
-unfoldable pub is_blank : ℕ → Bool
-is_blank b = (b == 32) || (b == 9) || (b == 13)
+-- Words and blanks.
 
 unfoldable pub behind_blanks : List ℕ → List ℕ
 behind_blanks xs = drop (prefix_len is_blank xs) xs
@@ -72,92 +69,89 @@ behind_word xs = behind_blanks (drop (word_len xs) xs)
 unfoldable pub has_word : List ℕ → Bool
 has_word xs = nat_lt 0 (word_len xs)
 
--- one name and nothing else
-unfoldable pub is_name : List ℕ → Bool
-is_name xs = has_word xs && (word_len xs == length xs)
+-- the text begins with these words, with blanks between
+abbrev pub begins_with : List Word → List ℕ → Bool
+begins_with [] xs = true
+begins_with (w ∷ []) xs = bytes_eq (word xs) w
+begins_with (w ∷ v ∷ ws) xs = bytes_eq (word xs) w && begins_with (v ∷ ws) (behind_word xs)
 
-unfoldable pub begins : List ℕ → List ℕ → Bool
-begins xs name = bytes_eq (word xs) name
+-- what stands behind the first n words and the blanks there
+abbrev pub behind_words : ℕ → List ℕ → List ℕ
+behind_words zero xs = xs
+behind_words (suc n) xs = behind_words n (behind_word xs)
 
--- The forms. Each text has no blanks at its end.
+-- What the parts of the forms mean. A form that lacks a part is none.
 
 -- a byte that is not allowed, else what the text means
-abbrev pub allowed_as : Option ℕ → Reading → Reading
+abbrev pub allowed_as : Option ℕ → PieceMeaning → PieceMeaning
 allowed_as None found = found
 allowed_as (Some i) found = Bad E02 i
 
-unfoldable pub allowed : List ℕ → Reading → Reading
+unfoldable pub allowed : List ℕ → PieceMeaning → PieceMeaning
 allowed xs found = allowed_as (position is_bad xs) found
 
--- `#include`
-unfoldable pub is_header : List ℕ → Bool
-is_header xs = bytes_eq xs (codes "<stdio.h>") || bytes_eq xs (codes "<stdint.h>") || bytes_eq xs (codes "<stdlib.h>")
+abbrev pub headers : List Word
+headers = codes "<stdio.h>" ∷ codes "<stdint.h>" ∷ codes "<stdlib.h>" ∷ []
 
-unfoldable pub inclusion : List ℕ → Reading
-inclusion xs = if is_header xs then Blank else Bad E05 0
+unfoldable pub header : List ℕ → PieceMeaning
+header xs = if listed headers xs then Blank else Bad E05 0
 
--- `#define`: the literal stands at byte `at` of the line
-abbrev pub defined_as : List ℕ → ℕ → Spelling → Reading
+-- the literal stands at byte `at` of the line
+abbrev pub defined_as : List ℕ → ℕ → LiteralValue → PieceMeaning
 defined_as name at Wrong = Bad E05 0
 defined_as name at Unfit = Defines name None at
 defined_as name at (Holds l) = Defines name (Some l) at
 
--- a name and a literal in a line of n bytes, with a blank between them
-unfoldable pub definition : ℕ → List ℕ → Reading
-definition n xs =
-    if has_word xs && not (is_keyword (word xs)) && is_blank (slice_index xs (word_len xs)) then
-    defined_as (word xs) (n - length (behind_word xs)) (literal (behind_word xs))
+-- a name that is no keyword, and a blank behind it
+unfoldable pub can_be_defined : List ℕ → Bool
+can_be_defined xs = has_word xs && not (is_keyword (word xs)) && is_blank (slice_index xs (word_len xs))
+
+-- a name and a literal, with a blank between them, at the end of a line of n bytes
+unfoldable pub name_and_literal : ℕ → List ℕ → PieceMeaning
+name_and_literal n xs =
+    if can_be_defined xs then defined_as (word xs) (n - length (behind_word xs)) (literal (behind_word xs))
     else Bad E05 0
 
--- `#pragma cle` but for `def`
-unfoldable pub cle_named : Bool → Pragma → Reading
-cle_named good pragma = if good then Is (Cle pragma) else Bad E05 0
+unfoldable pub cle_if : Bool → Pragma → PieceMeaning
+cle_if good pragma = if good then Is (Cle pragma) else Bad E05 0
 
-unfoldable pub cle : List ℕ → Reading
+-- a name, and anything behind it
+unfoldable pub other_pragma : List ℕ → List ℕ → PieceMeaning
+other_pragma line xs = if has_word xs then allowed line Blank else Bad E05 0
+
+-- THE FORMS OF `#pragma cle`, but for `def`, by what stands behind `cle`
+unfoldable pub cle : List ℕ → PieceMeaning
 cle xs =
-    if begins xs (codes "begin") then cle_named (is_name (behind_word xs)) (Begin (word (behind_word xs)))
-    else (if begins xs (codes "end") then cle_named (is_name (behind_word xs)) (End (word (behind_word xs)))
-    else cle_named (is_name xs && not (begins xs (codes "def"))) (Next (word xs)))
+    if begins_with (codes "begin" ∷ []) xs then cle_if (is_name (behind_words 1 xs)) (Begin (word (behind_words 1 xs)))
+    else (if begins_with (codes "end" ∷ []) xs then cle_if (is_name (behind_words 1 xs)) (End (word (behind_words 1 xs)))
+    else cle_if (is_name xs && not (is_cle_word (word xs))) (Next (word xs)))
 
--- `#pragma`: `line` is the whole line
-unfoldable pub pragma : List ℕ → List ℕ → Reading
-pragma line xs =
-    if has_word xs then (if begins xs (codes "cle") then cle (behind_word xs) else allowed line Blank)
-    else Bad E05 0
+-- THE FORMS OF A DIRECTIVE. `line` has its comments as spaces and no blanks at its end; `xs` is what stands behind its `#`.
+unfoldable pub form : List ℕ → List ℕ → PieceMeaning
+form line xs =
+    if begins_with (codes "include" ∷ []) xs then header (behind_words 1 xs)
+    else (if begins_with (codes "define" ∷ []) xs then name_and_literal (length line) (behind_words 1 xs)
+    else (if begins_with (codes "pragma" ∷ codes "cle" ∷ []) xs then cle (behind_words 2 xs)
+    else (if begins_with (codes "pragma" ∷ []) xs then other_pragma line (behind_words 1 xs)
+    else Bad E05 0)))
 
 -- what stands behind the number sign
 unfoldable pub behind_hash : List ℕ → List ℕ
 behind_hash line = behind_blanks (drop 1 line)
 
--- a line whose comments are spaces
-unfoldable pub directive_words : List ℕ → List ℕ → Reading
-directive_words line xs =
-    if begins xs (codes "include") then inclusion (behind_word xs)
-    else (if begins xs (codes "define") then definition (length line) (behind_word xs)
-    else (if begins xs (codes "pragma") then pragma line (behind_word xs)
-    else Bad E05 0))
-
-unfoldable pub directive_line : List ℕ → Reading
-directive_line line = directive_words line (behind_hash line)
-
-abbrev pub by_blanked : Option (List ℕ) → Reading
+abbrev pub by_blanked : Option (List ℕ) → PieceMeaning
 by_blanked None = Bad E05 0
-by_blanked (Some line) = directive_line (trimmed line)
+by_blanked (Some line) = form (trimmed line) (behind_hash (trimmed line))
 
--- `#pragma cle def NAME TEXT`, where comments are not looked for: what stands from NAME on, and whether a line is so
-unfoldable pub behind_def : List ℕ → List ℕ
-behind_def line = behind_word (behind_word (behind_word (behind_hash line)))
-
-unfoldable pub begins_def : List ℕ → Bool
-begins_def xs =
-    begins xs (codes "pragma") && begins (behind_word xs) (codes "cle") && begins (behind_word (behind_word xs)) (codes "def")
-
+-- `#pragma cle def NAME TEXT`, where comments are not looked for, and TEXT is not empty. The line has no blanks at its end.
 unfoldable pub is_def : List ℕ → Bool
-is_def line = begins_def (behind_hash line) && has_word (behind_def line) && nat_lt 0 (length (behind_word (behind_def line)))
+is_def xs = begins_with (codes "pragma" ∷ codes "cle" ∷ codes "def" ∷ []) xs && has_word (behind_words 3 xs) && nat_lt 0 (length (behind_words 4 xs))
 
-unfoldable pub def_line : List ℕ → Reading
-def_line line = allowed line (Is (Cle (Def (word (behind_def line)) (behind_word (behind_def line)))))
+unfoldable pub def_line : List ℕ → List ℕ → PieceMeaning
+def_line line xs = allowed line (Is (Cle (Def (word (behind_words 3 xs)) (behind_words 4 xs))))
 
 -- what a directive line means
-unfoldable pub directive : List ℕ → Reading
-directive p = if is_def (trimmed p) then def_line (trimmed p) else by_blanked (blanked Code [] p)
+unfoldable pub directive : List ℕ → PieceMeaning
+directive p =
+    if is_def (behind_hash (trimmed p)) then def_line (trimmed p) (behind_hash (trimmed p))
+    else by_blanked (blanked Code [] p)

@@ -1,5 +1,5 @@
 -- How items are spelled, which are well-formed, and where items end.
-use Rattle.std.specs.Prelude.{◌≡◌, ℕ, suc, ◌+◌, List, [], ◌∷◌, ◌++◌, map, length, Option, Some, None, Bool, true, false, not, ◌&&◌, ◌||◌, nat_lt, if◌then◌else◌}
+use Rattle.std.specs.Prelude.{◌≡◌, ℕ, List, [], ◌∷◌, ◌++◌, map, Option, Some, None, Bool, true, false, not, ◌&&◌, ◌||◌, if◌then◌else◌}
 use Rattle.std.specs.List.{flat_map}
 use Rattle.cl_tree.specs.declared.token.Mark.{Mark}
 use Rattle.cl_tree.specs.declared.token.Mark.TheVariants as mark
@@ -84,6 +84,10 @@ WellFormed program = All_items program.items
     All_items : List Item → Type 0
     All_items [] = Unit {0}
     All_items (i ∷ is) = (is_well_formed i ≡ true) × All_items is
+
+-- The spelling of a program: those of its items, one after the other.
+unfoldable pub program_spelling : Program → Spelling
+program_spelling program = flat_map item_spelling program.items
 
 -- ---- where items end
 
@@ -176,35 +180,3 @@ cut_from bs after (p ∷ ps) = joined (ends_here bs (effect after p.what) ps) p 
 -- The pieces of each item.
 unfoldable pub cut : List Piece → List (List Piece)
 cut ps = cut_from [] false ps
-
--- ---- limits
-
-abbrev pub is_else : Sign → ℕ
-is_else (sign.Key key.Else) = 1
-is_else _ = 0
-
-abbrev pub separates : Sign → Bool
-separates (sign.Mark mark.OpenBrace) = true
-separates (sign.Mark mark.CloseBrace) = true
-separates (sign.Mark mark.Semicolon) = true
-separates (sign.Mark mark.Comma) = true
-separates (sign.Cle p) = true
-separates _ = false
-
-abbrev pub unseparated : ℕ → Sign → ℕ
-unseparated n s = if separates s then 0 else suc n
-
--- more than 64 open brackets, 256 times `else` in an item, or 512 pieces with no separator between
-abbrev pub is_over : List Bracket → ℕ → ℕ → Bool
-is_over bs elses run = nat_lt 64 (length bs) || (nat_lt 256 elses || nat_lt 512 run)
-
--- The line of the first piece that passes a limit. `elses` are those of the item so far, `run` the pieces since the last separator.
-unfoldable pub limit_from : List Bracket → Bool → ℕ → ℕ → List Piece → Option ℕ
-limit_from bs after elses run [] = None
-limit_from bs after elses run (p ∷ ps) =
-    if is_over (open_after bs (effect after p.what)) (elses + is_else p.what) (unseparated run p.what)
-    then Some p.line
-    else limit_from (open_after bs (effect after p.what)) (is_close p.what) (if ends_here bs (effect after p.what) ps then 0 else elses + is_else p.what) (unseparated run p.what) ps
-
-unfoldable pub limit_passed : List Piece → Option ℕ
-limit_passed ps = limit_from [] false 0 0 ps

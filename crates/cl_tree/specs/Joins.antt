@@ -1,18 +1,19 @@
 -- A source without its joins: a backslash and a newline, or a backslash, CR and newline (C11 5.1.1.2, phase 2). Each byte that is left keeps its line and place in the source as it came.
 use Rattle.std.specs.Prelude.{ℕ, suc, zero, ◌+◌, ◌-◌, ◌&&◌, ◌==◌, List, [], ◌∷◌, map, slice_index, if◌then◌else◌}
+use Prim.Native.Char.{code}
 use Rattle.cl_tree.specs.declared.pieces.Place.{Place}
 
 -- the length of the join that a text begins with, or 0
 unfoldable pub join_len : List ℕ → ℕ
 join_len xs =
-    if slice_index xs 0 == 92 then
-    (if slice_index xs 1 == 10 then 2
-    else (if (slice_index xs 1 == 13) && (slice_index xs 2 == 10) then 3 else 0))
+    if slice_index xs 0 == code "\\" then
+    (if slice_index xs 1 == code "\n" then 2
+    else (if (slice_index xs 1 == code "\r") && (slice_index xs 2 == code "\n") then 3 else 0))
     else 0
 
 -- the line behind a byte
 unfoldable pub line_after : ℕ → ℕ → ℕ
-line_after line b = if b == 10 then line + 1 else line
+line_after line b = if b == code "\n" then line + 1 else line
 
 -- a byte and where it stands
 pub record Cell : Type 0 where

@@ -1,7 +1,9 @@
+pub mod Letters
 pub mod Arithmetic
 pub mod Directives
 pub mod Items
 pub mod Joins
+pub mod Limits
 pub mod Literals
 pub mod Pieces
 pub mod Reading

@@ -7,18 +7,20 @@ use Rattle.cl_tree.specs.declared.kinds.IntKind.TheVariants.{I8, U8, I16, U16, I
 use Rattle.cl_tree.specs.declared.pieces.Width.{Width}
 use Rattle.cl_tree.specs.declared.pieces.Width.TheVariants as width
 use Rattle.cl_tree.specs.declared.pieces.Literal.TheVariants.{Number, Byte}
-use Rattle.cl_tree.specs.declared.pieces.Spelling.{Spelling}
-use Rattle.cl_tree.specs.declared.pieces.Spelling.TheVariants.{Wrong, Unfit, Holds}
+use Rattle.cl_tree.specs.declared.pieces.LiteralValue.{LiteralValue}
+use Rattle.cl_tree.specs.declared.pieces.LiteralValue.TheVariants.{Wrong, Unfit, Holds}
 use Rattle.cl_tree.specs.declared.pieces.Escape.{Escape}
 use Rattle.cl_tree.specs.declared.pieces.Escape.TheVariants.{NoEscape, TooBig, Value}
-use Rattle.cl_tree.specs.Pieces.{is_digit}
+use Rattle.cl_tree.specs.declared.pieces.TheConstants.{ESCAPES}
+use Rattle.cl_tree.specs.Letters.{is_digit, is_printable}
+use Prim.Native.Char.{code}
 
 -- the value of a digit, 99 where the byte is none
 unfoldable pub digit_of : ℕ → ℕ
 digit_of b =
-    if nat_le 48 b && nat_le b 57 then b - 48
-    else (if nat_le 97 b && nat_le b 102 then b - 87
-    else (if nat_le 65 b && nat_le b 70 then b - 55
+    if is_digit b then b - code "0"
+    else (if nat_le (code "a") b && nat_le b (code "f") then b - code "a" + 10
+    else (if nat_le (code "A") b && nat_le b (code "F") then b - code "A" + 10
     else 99))
 
 unfoldable pub is_digit_in : ℕ → ℕ → Bool
@@ -41,11 +43,11 @@ are_digits base xs = nat_lt 0 (length xs) && list_all (is_digit_in base) xs
 -- Integer literals: digits of a base, and a suffix.
 
 unfoldable pub is_u : ℕ → Bool
-is_u b = (b == 117) || (b == 85)
+is_u b = (b == code "u") || (b == code "U")
 
 -- a byte of the body, which no suffix has
 unfoldable pub is_body : ℕ → Bool
-is_body b = not (is_u b || (b == 108) || (b == 76))
+is_body b = not (is_u b || (b == code "l") || (b == code "L"))
 
 -- a `u` stands first or last in a suffix
 unfoldable pub has_u : List ℕ → Bool
@@ -66,10 +68,10 @@ width_of s =
     else None))
 
 unfoldable pub is_hex : List ℕ → Bool
-is_hex xs = (slice_index xs 0 == 48) && ((slice_index xs 1 == 120) || (slice_index xs 1 == 88))
+is_hex xs = (slice_index xs 0 == code "0") && ((slice_index xs 1 == code "x") || (slice_index xs 1 == code "X"))
 
 unfoldable pub base_of : List ℕ → ℕ
-base_of xs = if is_hex xs then 16 else (if slice_index xs 0 == 48 then 8 else 10)
+base_of xs = if is_hex xs then 16 else (if slice_index xs 0 == code "0" then 8 else 10)
 
 unfoldable pub digits_of : List ℕ → List ℕ
 digits_of xs = if is_hex xs then drop 2 xs else xs
@@ -106,29 +108,29 @@ limit ULLong = 2 ^ 64
 unfoldable pub kind_of : Bool → Bool → Width → ℕ → Option IntKind
 kind_of decimal unsigned w v = find (λ k. nat_lt v (limit k)) (types_of decimal unsigned w)
 
-abbrev pub with_kind : ℕ → Option IntKind → Spelling
+abbrev pub with_kind : ℕ → Option IntKind → LiteralValue
 with_kind v None = Unfit
 with_kind v (Some k) = Holds (Number v k)
 
-abbrev pub valued : Bool → Bool → Width → Option ℕ → Spelling
+abbrev pub valued : Bool → Bool → Width → Option ℕ → LiteralValue
 valued decimal unsigned w None = Unfit
 valued decimal unsigned w (Some v) = with_kind v (kind_of decimal unsigned w v)
 
 -- a body with a suffix of this meaning
-unfoldable pub numeral : Bool → Width → List ℕ → Spelling
+unfoldable pub numeral : Bool → Width → List ℕ → LiteralValue
 numeral unsigned w body =
     if are_digits (base_of body) (digits_of body) then valued (base_of body == 10) unsigned w (fitting (number_from (base_of body) 0 (digits_of body)))
     else Wrong
 
-abbrev pub suffixed : Bool → List ℕ → Option Width → Spelling
+abbrev pub suffixed : Bool → List ℕ → Option Width → LiteralValue
 suffixed unsigned body None = Wrong
 suffixed unsigned body (Some w) = numeral unsigned w body
 
 -- the integer literal that these bytes spell
-unfoldable pub integer_split : List ℕ → List ℕ → Spelling
+unfoldable pub integer_split : List ℕ → List ℕ → LiteralValue
 integer_split body suffix = suffixed (has_u suffix) body (width_of (without_u suffix))
 
-unfoldable pub integer : List ℕ → Spelling
+unfoldable pub integer : List ℕ → LiteralValue
 integer p = integer_split (take (prefix_len is_body p) p) (drop (prefix_len is_body p) p)
 
 -- Decimal floating literals: digits with a point among them or an exponent behind them, and a suffix.
@@ -137,21 +139,21 @@ unfoldable pub behind_digits : List ℕ → List ℕ
 behind_digits xs = drop (prefix_len is_digit xs) xs
 
 unfoldable pub is_float_suffix : ℕ → Bool
-is_float_suffix b = (b == 102) || (b == 70) || (b == 108) || (b == 76)
+is_float_suffix b = (b == code "f") || (b == code "F") || (b == code "l") || (b == code "L")
 
 -- nothing or one letter behind the digits
 unfoldable pub ends_float : List ℕ → Bool
 ends_float xs = if length xs == 0 then true else ((length xs == 1) && is_float_suffix (slice_index xs 0))
 
 unfoldable pub behind_sign : List ℕ → List ℕ
-behind_sign xs = if (slice_index xs 0 == 43) || (slice_index xs 0 == 45) then drop 1 xs else xs
+behind_sign xs = if (slice_index xs 0 == code "+") || (slice_index xs 0 == code "-") then drop 1 xs else xs
 
 -- an exponent's digits, and the end
 unfoldable pub ends_exponent : List ℕ → Bool
 ends_exponent xs = is_digit (slice_index xs 0) && ends_float (behind_digits xs)
 
 unfoldable pub is_exponent : List ℕ → Bool
-is_exponent xs = ((slice_index xs 0 == 101) || (slice_index xs 0 == 69)) && ends_exponent (behind_sign (drop 1 xs))
+is_exponent xs = ((slice_index xs 0 == code "e") || (slice_index xs 0 == code "E")) && ends_exponent (behind_sign (drop 1 xs))
 
 unfoldable pub ends_fraction : List ℕ → Bool
 ends_fraction xs = ends_float xs || is_exponent xs
@@ -159,16 +161,13 @@ ends_fraction xs = ends_float xs || is_exponent xs
 -- a floating literal, where `rest` stands behind its first digits
 unfoldable pub is_floating_from : List ℕ → List ℕ → Bool
 is_floating_from p rest =
-    if slice_index rest 0 == 46 then (is_digit (slice_index p 0) || is_digit (slice_index rest 1)) && ends_fraction (behind_digits (drop 1 rest))
+    if slice_index rest 0 == code "." then (is_digit (slice_index p 0) || is_digit (slice_index rest 1)) && ends_fraction (behind_digits (drop 1 rest))
     else (is_digit (slice_index p 0) && is_exponent rest)
 
 unfoldable pub is_floating : List ℕ → Bool
 is_floating p = is_floating_from p (behind_digits p)
 
 -- Character constants and strings.
-
-unfoldable pub is_printable : ℕ → Bool
-is_printable b = nat_le 32 b && nat_le b 126
 
 abbrev pub byte_or_big : ℕ → Option ℕ → Escape
 byte_or_big n None = TooBig n
@@ -181,24 +180,19 @@ by_digits base before xs =
     else byte_or_big (before + prefix_len (is_digit_in base) xs) (fitting (number_from base 0 (take (prefix_len (is_digit_in base) xs) xs)))
 
 -- the escapes of one letter
+abbrev pub letter_escape : Option (ℕ × ℕ) → Escape
+letter_escape None = NoEscape
+letter_escape (Some row) = Value row.1 1
+
 unfoldable pub simple_escape : ℕ → Escape
-simple_escape b =
-    if b == 110 then Value 10 1
-    else (if b == 116 then Value 9 1
-    else (if b == 114 then Value 13 1
-    else (if b == 97 then Value 7 1
-    else (if b == 98 then Value 8 1
-    else (if b == 102 then Value 12 1
-    else (if b == 118 then Value 11 1
-    else (if (b == 92) || (b == 39) || (b == 34) || (b == 63) then Value b 1
-    else NoEscape)))))))
+simple_escape b = letter_escape (find (λ row. row.0 == b) ESCAPES)
 
 -- what stands behind a backslash: one to three octal digits, `x` and hexadecimal digits, or one letter
 unfoldable pub escape_at : List ℕ → Escape
 escape_at xs =
     if length xs == 0 then NoEscape
     else (if is_digit_in 8 (slice_index xs 0) then by_digits 8 0 (take 3 xs)
-    else (if slice_index xs 0 == 120 then by_digits 16 1 (drop 1 xs)
+    else (if slice_index xs 0 == code "x" then by_digits 16 1 (drop 1 xs)
     else simple_escape (slice_index xs 0)))
 
 abbrev pub by_escape : {A : Type 0} → (ℕ → ℕ → A) → A → Escape → A
@@ -211,20 +205,20 @@ abbrev pub unescaped : ℕ → List ℕ → List ℕ → Option (List ℕ)
 unescaped skip done [] = Some done
 unescaped (suc k) done (b ∷ bs) = unescaped k done bs
 unescaped zero done (b ∷ bs) =
-    if b == 92 then by_escape (λ v n. unescaped n (done ++ v ∷ []) bs) None (escape_at bs)
+    if b == code "\\" then by_escape (λ v n. unescaped n (done ++ v ∷ []) bs) None (escape_at bs)
     else (if is_printable b then unescaped 0 (done ++ b ∷ []) bs else None)
 
 -- an escape that is the whole of n bytes
-abbrev pub escaped_letter : ℕ → Escape → Spelling
+abbrev pub escaped_letter : ℕ → Escape → LiteralValue
 escaped_letter n NoEscape = Wrong
 escaped_letter n (TooBig k) = if 1 + k == n then Unfit else Wrong
 escaped_letter n (Value b k) = if 1 + k == n then Holds (Byte b) else Wrong
 
 -- the inside of a character constant: one printable byte other than `'` and a backslash, or one escape
-unfoldable pub letter_inside : List ℕ → Spelling
+unfoldable pub letter_inside : List ℕ → LiteralValue
 letter_inside xs =
-    if length xs == 1 then (if is_printable (slice_index xs 0) && not ((slice_index xs 0 == 39) || (slice_index xs 0 == 92)) then Holds (Byte (slice_index xs 0)) else Wrong)
-    else (if slice_index xs 0 == 92 then escaped_letter (length xs) (escape_at (drop 1 xs))
+    if length xs == 1 then (if is_printable (slice_index xs 0) && not ((slice_index xs 0 == code "'") || (slice_index xs 0 == code "\\")) then Holds (Byte (slice_index xs 0)) else Wrong)
+    else (if slice_index xs 0 == code "\\" then escaped_letter (length xs) (escape_at (drop 1 xs))
     else Wrong)
 
 -- without the first and the last byte
@@ -232,12 +226,12 @@ unfoldable pub inside : List ℕ → List ℕ
 inside p = take (length p - 1 - 1) (drop 1 p)
 
 -- the character constant that these bytes spell
-unfoldable pub letter : List ℕ → Spelling
+unfoldable pub letter : List ℕ → LiteralValue
 letter p =
     if nat_lt (length p) 2 then Wrong
-    else (if (slice_index p 0 == 39) && (slice_index p (length p - 1) == 39) then letter_inside (inside p)
+    else (if (slice_index p 0 == code "'") && (slice_index p (length p - 1) == code "'") then letter_inside (inside p)
     else Wrong)
 
 -- the integer literal or character constant that these bytes spell
-unfoldable pub literal : List ℕ → Spelling
-literal p = if slice_index p 0 == 39 then letter p else integer p
+unfoldable pub literal : List ℕ → LiteralValue
+literal p = if slice_index p 0 == code "'" then letter p else integer p

@@ -6,7 +6,8 @@ use Rattle.cl_tree.specs.declared.tree.Item.{Item}
 use Rattle.cl_tree.specs.declared.tree.Program.{Program}
 use Rattle.cl_tree.specs.Runs.{pieces}
 use Rattle.cl_tree.specs.Spelling.{Reads}
-use Rattle.cl_tree.specs.Items.{is_well_formed, item_spelling, cut, limit_passed}
+use Rattle.cl_tree.specs.Items.{is_well_formed, item_spelling, cut}
+use Rattle.cl_tree.specs.Limits.{limit_passed}
 
 -- All of the pieces are the spelling of a well-formed item, with the lines that it keeps.
 pub record IsItem (ps : List Piece) (i : Item) : Type 0 where
@@ -41,6 +42,13 @@ abbrev pub IsFirstUnread : List (List Piece) → ℕ → Type 0
 IsFirstUnread [] line = ⊥
 IsFirstUnread (ps ∷ pss) line = (IsUnread ps × (line_of ps ≡ line)) ⊎ (((i : Item) × IsItem ps i) × IsFirstUnread pss line)
 
+-- The tokens keep the limits and read as a program.
+abbrev pub HasProgram : List Token → Type 0
+HasProgram tokens = (program : Program) × WithinLimits tokens × ReadsAs tokens program
+
 -- The rule that fails, and its line: E23 for a limit, else E06 for an item without a reading.
 abbrev pub ParseFails : List Token → ℕ → ℕ → Type 0
 ParseFails tokens rule line = ((rule ≡ 23) × (passed_at tokens ≡ Some line)) ⊎ ((rule ≡ 6) × (WithinLimits tokens × IsFirstUnread (cut (pieces tokens)) line))
+
+abbrev pub HasFailure : List Token → Type 0
+HasFailure tokens = (rule : ℕ) × (line : ℕ) × ParseFails tokens rule line

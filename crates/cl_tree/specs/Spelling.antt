@@ -1,5 +1,5 @@
 -- How types and expressions are spelled as pieces, line by line, and which are well-formed.
-use Rattle.std.specs.Prelude.{◌≡◌, ℕ, zero, suc, ◌^◌, List, [], ◌∷◌, ◌++◌, map, Bool, true, false, ◌&&◌, ◌==◌, nat_le, nat_lt, bytes_eq}
+use Rattle.std.specs.Prelude.{◌≡◌, ℕ, zero, suc, ◌^◌, List, [], ◌∷◌, ◌++◌, map, Bool, true, false, ◌&&◌, nat_le, nat_lt, bytes_eq}
 use Rattle.std.specs.List.{flat_map}
 use denote.Enum.Bare.{sameb}
 use Rattle.cl_tree.specs.contracts.kinds.IntKind.{the_type}
@@ -67,6 +67,11 @@ put_key k rest = put (sign.Key k) rest
 
 abbrev pub put_size : ℕ → Spelling → Spelling
 put_size n rest = record { what = size n; lines = [] } ∷ rest
+
+-- The first piece stands on these lines too.
+abbrev pub first_on : List ℕ → Spelling → Spelling
+first_on lines [] = []
+first_on lines (w ∷ ws) = record { what = w.what; lines = lines ++ w.lines } ∷ ws
 
 -- with commas between
 abbrev pub commas : List Spelling → Spelling
@@ -237,9 +242,8 @@ binds binary.Mul = 11
 binds binary.Div = 11
 binds binary.Rem = 11
 
--- What is to be known of an expression; `line` is its first piece's.
+-- What is to be known of an expression. Its spelling says on which lines its pieces stand; whether it is well-formed rests on no line.
 pub record Shape : Type 0 where
-  pub line : ℕ
   pub level : ℕ
   pub spelling : Spelling
   pub proper : Bool
@@ -250,9 +254,10 @@ all_proper (s ∷ ss) = s.proper && all_proper ss
 
 -- one piece, which is the whole expression
 abbrev pub leaf : Sign → ℕ → ℕ → Shape
-leaf s line second = record { line = line; level = 14; spelling = put_at line s []; proper = second == line }
+leaf s line second = record { level = 14; spelling = put_on (line ∷ second ∷ []) s []; proper = true }
 
--- One level of an expression, of which the line and the second line are given.
+-- One level of an expression, of which the line and the second line are given. The first piece stands on the line; on the second line
+-- stands the piece that it is kept for, and else the first piece too.
 abbrev pub node_step : Node-F (ℕ → ℕ → Shape) Shape → ℕ → ℕ → Shape
 node_step (node.Number value kind) line second = leaf (sign.Integer value kind) line second
 node_step node.Real line second = leaf sign.Floating line second
@@ -260,59 +265,50 @@ node_step (node.Letter byte) line second = leaf (sign.Letter byte) line second
 node_step (node.Text bytes) line second = leaf (sign.Text bytes) line second
 node_step (node.Variable name) line second = leaf (sign.Name name) line second
 node_step (node.Unary op e) line second = record {
-  line = line;
   level = 13;
-  spelling = mark_at line (unary_mark op) e.spelling;
-  proper = second == line && (nat_le 12 e.level && e.proper);
+  spelling = mark_on (line ∷ second ∷ []) (unary_mark op) e.spelling;
+  proper = nat_le 12 e.level && e.proper;
 }
 -- left associative
 node_step (node.Binary op a b) line second = record {
-  line = line;
   level = binds op;
-  spelling = a.spelling ++ mark_at second (binary_mark op) b.spelling;
-  proper = line == a.line && ((nat_le (binds op) a.level && nat_le (suc (binds op)) b.level) && (a.proper && b.proper));
+  spelling = first_on (line ∷ []) a.spelling ++ mark_at second (binary_mark op) b.spelling;
+  proper = (nat_le (binds op) a.level && nat_le (suc (binds op)) b.level) && (a.proper && b.proper);
 }
 node_step (node.Choice c a b) line second = record {
-  line = line;
   level = 1;
-  spelling = c.spelling ++ put_mark mark.Question (a.spelling ++ put_mark mark.Colon b.spelling);
-  proper = line == c.line && (second == line && (nat_le 2 c.level && (c.proper && (a.proper && b.proper))));
+  spelling = first_on (line ∷ second ∷ []) c.spelling ++ put_mark mark.Question (a.spelling ++ put_mark mark.Colon b.spelling);
+  proper = nat_le 2 c.level && (c.proper && (a.proper && b.proper));
 }
 node_step (node.Cast t e) line second = record {
-  line = line;
   level = 12;
   spelling = mark_on (line ∷ other_lines (held_by t) second) mark.OpenParen (type_name [] t second (put_mark mark.CloseParen e.spelling));
   proper = is_type_name t && (nat_le 12 e.level && e.proper);
 }
 node_step (node.Call name arguments) line second = record {
-  line = line;
   level = 14;
-  spelling = put_at line (sign.Name name) (put_mark mark.OpenParen (commas (map (λ s. s.spelling) arguments) ++ put_mark mark.CloseParen []));
-  proper = second == line && all_proper arguments;
+  spelling = put_on (line ∷ second ∷ []) (sign.Name name) (put_mark mark.OpenParen (commas (map (λ s. s.spelling) arguments) ++ put_mark mark.CloseParen []));
+  proper = all_proper arguments;
 }
 node_step (node.Index a i) line second = record {
-  line = line;
   level = 14;
-  spelling = a.spelling ++ mark_at second mark.OpenBracket (i.spelling ++ put_mark mark.CloseBracket []);
-  proper = line == a.line && (nat_le 14 a.level && (a.proper && i.proper));
+  spelling = first_on (line ∷ []) a.spelling ++ mark_at second mark.OpenBracket (i.spelling ++ put_mark mark.CloseBracket []);
+  proper = nat_le 14 a.level && (a.proper && i.proper);
 }
 node_step (node.Member a name) line second = record {
-  line = line;
   level = 14;
-  spelling = a.spelling ++ put_mark mark.Dot (put (sign.Name name) []);
-  proper = line == a.line && (second == line && (nat_le 14 a.level && a.proper));
+  spelling = first_on (line ∷ second ∷ []) a.spelling ++ put_mark mark.Dot (put (sign.Name name) []);
+  proper = nat_le 14 a.level && a.proper;
 }
 node_step (node.Arrow a name) line second = record {
-  line = line;
   level = 14;
-  spelling = a.spelling ++ mark_at second mark.Arrow (put (sign.Name name) []);
-  proper = line == a.line && (nat_le 14 a.level && a.proper);
+  spelling = first_on (line ∷ []) a.spelling ++ mark_at second mark.Arrow (put (sign.Name name) []);
+  proper = nat_le 14 a.level && a.proper;
 }
 node_step (node.Paren e) line second = record {
-  line = line;
   level = 14;
-  spelling = mark_at line mark.OpenParen (e.spelling ++ put_mark mark.CloseParen []);
-  proper = second == line && e.proper;
+  spelling = mark_on (line ∷ second ∷ []) mark.OpenParen (e.spelling ++ put_mark mark.CloseParen []);
+  proper = e.proper;
 }
 
 unfoldable pub shape : Expr → Shape

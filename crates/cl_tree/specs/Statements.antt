@@ -1,5 +1,5 @@
 -- How declarations and statements are spelled, and which are well-formed.
-use Rattle.std.specs.Prelude.{ℕ, List, [], ◌∷◌, ◌++◌, map, Option, Some, None, Bool, true, false, not, ◌&&◌, ◌==◌, nat_le}
+use Rattle.std.specs.Prelude.{ℕ, List, [], ◌∷◌, ◌++◌, map, Option, Some, None, Bool, true, false, not, ◌&&◌, nat_le}
 use Rattle.std.specs.List.{flat_map}
 use Rattle.cl_tree.specs.declared.kinds.BinOp.{BinOp}
 use Rattle.cl_tree.specs.declared.kinds.BinOp.TheVariants as binary
@@ -19,7 +19,7 @@ use Rattle.cl_tree.specs.declared.tree.Declaration.{Declaration}
 use Rattle.cl_tree.specs.declared.tree.Stmt.{Stmt, fold-Stmt}
 use Rattle.cl_tree.specs.declared.tree.Act.{Act-F}
 use Rattle.cl_tree.specs.declared.tree.Act.TheOpen as act
-use Rattle.cl_tree.specs.Spelling.{Spelling, put_at, mark_at, put_mark, key_on, key_at, put_key, commas, other_lines, floating_lines, star_lines, held_by, type_shape, same_base, is_void, is_empty, base_on, stars_on, dims_then, shape}
+use Rattle.cl_tree.specs.Spelling.{Spelling, put_on, put_at, mark_on, mark_at, first_on, put_mark, key_on, put_key, commas, other_lines, floating_lines, star_lines, held_by, type_shape, same_base, is_void, is_empty, base_on, stars_on, dims_then, shape}
 
 -- ---- declarations
 
@@ -203,38 +203,38 @@ abbrev pub is_next : Option StmtShape → Bool
 is_next None = true
 is_next (Some s) = is_simple s.form && s.proper
 
--- One level of a statement, of which the line and the second line are given.
+-- One level of a statement, of which the line and the second line are given. Lines are kept as those of an expression are.
 abbrev pub act_step : Act-F (ℕ → ℕ → StmtShape) StmtShape → ℕ → ℕ → StmtShape
-act_step act.Empty line second = of_form other (mark_at line mark.Semicolon []) false (second == line)
-act_step (act.Block ss) line second = of_form other (mark_at line mark.OpenBrace (statements ss)) false (second == line && all_stmts ss)
+act_step act.Empty line second = of_form other (mark_on (line ∷ second ∷ []) mark.Semicolon []) false true
+act_step (act.Block ss) line second = of_form other (mark_on (line ∷ second ∷ []) mark.OpenBrace (statements ss)) false (all_stmts ss)
 act_step (act.Set op place value) line second =
-    before_semicolon simple ((shape place).spelling ++ mark_at second (assign_mark op) (shape value).spelling)
-    (line == place.line && (assigns op && (nat_le 13 (shape place).level && ((shape place).proper && (shape value).proper))))
+    before_semicolon simple (first_on (line ∷ []) (shape place).spelling ++ mark_at second (assign_mark op) (shape value).spelling)
+    (assigns op && (nat_le 13 (shape place).level && ((shape place).proper && (shape value).proper)))
 act_step (act.Bump up true place) line second =
-    before_semicolon simple (mark_at line (bump_mark up) (shape place).spelling) (second == line && (nat_le 13 (shape place).level && (shape place).proper))
+    before_semicolon simple (mark_on (line ∷ second ∷ []) (bump_mark up) (shape place).spelling) (nat_le 13 (shape place).level && (shape place).proper)
 act_step (act.Bump up false place) line second =
-    before_semicolon simple ((shape place).spelling ++ mark_at second (bump_mark up) []) (line == place.line && (nat_le 13 (shape place).level && (shape place).proper))
-act_step (act.Call e) line second = before_semicolon simple (shape e).spelling (line == e.line && (second == line && (is_call e && (shape e).proper)))
+    before_semicolon simple (first_on (line ∷ []) (shape place).spelling ++ mark_at second (bump_mark up) []) (nat_le 13 (shape place).level && (shape place).proper)
+act_step (act.Call e) line second = before_semicolon simple (first_on (line ∷ second ∷ []) (shape e).spelling) (is_call e && (shape e).proper)
 act_step (act.If c s None) line second =
-    of_form other (key_at line key.If (put_mark mark.OpenParen ((shape c).spelling ++ put_mark mark.CloseParen s.spelling))) true (second == line && ((shape c).proper && is_part s))
+    of_form other (key_on (line ∷ second ∷ []) key.If (put_mark mark.OpenParen ((shape c).spelling ++ put_mark mark.CloseParen s.spelling))) true ((shape c).proper && is_part s)
 -- an `else` follows the nearest open `if`
 act_step (act.If c s (Some t)) line second =
-    of_form other (key_at line key.If (put_mark mark.OpenParen ((shape c).spelling ++ put_mark mark.CloseParen (s.spelling ++ put_key key.Else t.spelling)))) t.dangling
-    (second == line && ((shape c).proper && (not s.dangling && (is_part s && is_part t))))
+    of_form other (key_on (line ∷ second ∷ []) key.If (put_mark mark.OpenParen ((shape c).spelling ++ put_mark mark.CloseParen (s.spelling ++ put_key key.Else t.spelling)))) t.dangling
+    ((shape c).proper && (not s.dangling && (is_part s && is_part t)))
 act_step (act.While c s) line second =
-    of_form other (key_at line key.While (put_mark mark.OpenParen ((shape c).spelling ++ put_mark mark.CloseParen s.spelling))) s.dangling (second == line && ((shape c).proper && is_part s))
+    of_form other (key_on (line ∷ second ∷ []) key.While (put_mark mark.OpenParen ((shape c).spelling ++ put_mark mark.CloseParen s.spelling))) s.dangling ((shape c).proper && is_part s)
 act_step (act.DoWhile s c) line second =
-    of_form other (key_at line key.Do (s.spelling ++ put_key key.While (put_mark mark.OpenParen ((shape c).spelling ++ put_mark mark.CloseParen (put_mark mark.Semicolon []))))) false
-    (second == line && (is_part s && (shape c).proper))
+    of_form other (key_on (line ∷ second ∷ []) key.Do (s.spelling ++ put_key key.While (put_mark mark.OpenParen ((shape c).spelling ++ put_mark mark.CloseParen (put_mark mark.Semicolon []))))) false
+    (is_part s && (shape c).proper)
 act_step (act.For first test next body) line second =
-    of_form other (key_at line key.For (put_mark mark.OpenParen (head_first first ++ (head_test test ++ put_mark mark.Semicolon (head_next next ++ put_mark mark.CloseParen body.spelling))))) body.dangling
-    (second == line && (is_first first && (is_test test && (is_next next && is_part body))))
-act_step (act.Return None) line second = of_form other (key_at line key.Return (put_mark mark.Semicolon [])) false (second == line)
-act_step (act.Return (Some e)) line second = of_form other (key_at line key.Return ((shape e).spelling ++ put_mark mark.Semicolon [])) false (second == line && (shape e).proper)
-act_step act.Break line second = of_form other (key_at line key.Break (put_mark mark.Semicolon [])) false (second == line)
-act_step act.Continue line second = of_form other (key_at line key.Continue (put_mark mark.Semicolon [])) false (second == line)
-act_step (act.Declare d) line second = before_semicolon declares (declaration (line ∷ []) d) (second == line && is_declaration d)
-act_step (act.Cle p) line second = of_form pragma (put_at line (sign.Cle p) []) false (second == line)
+    of_form other (key_on (line ∷ second ∷ []) key.For (put_mark mark.OpenParen (head_first first ++ (head_test test ++ put_mark mark.Semicolon (head_next next ++ put_mark mark.CloseParen body.spelling))))) body.dangling
+    (is_first first && (is_test test && (is_next next && is_part body)))
+act_step (act.Return None) line second = of_form other (key_on (line ∷ second ∷ []) key.Return (put_mark mark.Semicolon [])) false true
+act_step (act.Return (Some e)) line second = of_form other (key_on (line ∷ second ∷ []) key.Return ((shape e).spelling ++ put_mark mark.Semicolon [])) false (shape e).proper
+act_step act.Break line second = of_form other (key_on (line ∷ second ∷ []) key.Break (put_mark mark.Semicolon [])) false true
+act_step act.Continue line second = of_form other (key_on (line ∷ second ∷ []) key.Continue (put_mark mark.Semicolon [])) false true
+act_step (act.Declare d) line second = before_semicolon declares (declaration (line ∷ second ∷ []) d) (is_declaration d)
+act_step (act.Cle p) line second = of_form pragma (put_on (line ∷ second ∷ []) (sign.Cle p) []) false true
 
 unfoldable pub stmt_shape : Stmt → StmtShape
 stmt_shape = fold-Stmt (ℕ → ℕ → StmtShape) StmtShape act_step (λ s. s.node s.line s.second)

@@ -1,10 +1,10 @@
 -- The tokens of a source, and the first place where it breaks one of the lexical rules.
-use Rattle.std.specs.Prelude.{◌≡◌, ℕ, ◌+◌, ◌-◌, ◌<◌, ◌≤◌, Bool, true, false, not, ◌&&◌, ◌==◌, List, [], ◌∷◌, ◌++◌, Option, Some, None, length, take, slice_index, slice_index_or, ◌⊎◌, if◌then◌else◌}
+use Rattle.std.specs.Prelude.{◌≡◌, ℕ, ◌+◌, ◌-◌, ◌<◌, ◌≤◌, Bool, true, false, not, ◌&&◌, ◌==◌, List, [], ◌∷◌, ◌++◌, Option, Some, None, length, take, slice_index, slice_index_or, bytes_eq, ◌⊎◌, if◌then◌else◌}
 use Rattle.std.specs.List.{position, prefix_len}
 use Rattle.std.specs.Map.{update}
-use Rattle.std.specs.Str.{bytes_eq}
 use Rattle.cl_tree.specs.Joins.{bytes_of, places_of}
-use Rattle.cl_tree.specs.Pieces.{is_bad, is_piece, opening, mark}
+use Rattle.cl_tree.specs.Letters.{is_bad, is_newline}
+use Rattle.cl_tree.specs.Pieces.{is_piece, opening, mark}
 use Rattle.cl_tree.specs.Literals.{integer, is_floating, letter, inside, unescaped}
 use Rattle.cl_tree.specs.Directives.{allowed, directive}
 use Rattle.cl_tree.specs.declared.token.Token.{Token}
@@ -13,15 +13,16 @@ use Rattle.cl_tree.specs.declared.token.Lexeme.TheVariants.{Word, Integer, Float
 use Rattle.cl_tree.specs.declared.token.Lexeme.TheVariants as lexeme
 use Rattle.cl_tree.specs.declared.token.Mark as punctuator
 use Rattle.cl_tree.specs.declared.pieces.Run.TheVariants.{Letters, Digits, Line, Directive}
+use Rattle.cl_tree.specs.declared.pieces.Closed.{Closed}
 use Rattle.cl_tree.specs.declared.pieces.Closed.TheVariants.{Comment, Quoted, Letter}
 use Rattle.cl_tree.specs.declared.pieces.Opening.{Opening}
 use Rattle.cl_tree.specs.declared.pieces.Opening.TheVariants.{Runs, Closes, Space, Punct, Other}
 use Rattle.cl_tree.specs.declared.pieces.Literal.{Literal}
 use Rattle.cl_tree.specs.declared.pieces.Literal.TheVariants.{Number, Byte}
-use Rattle.cl_tree.specs.declared.pieces.Spelling.{Spelling}
-use Rattle.cl_tree.specs.declared.pieces.Spelling.TheVariants.{Wrong, Unfit, Holds}
-use Rattle.cl_tree.specs.declared.pieces.Reading.{Reading}
-use Rattle.cl_tree.specs.declared.pieces.Reading.TheVariants.{Blank, Bad, Is, Defines}
+use Rattle.cl_tree.specs.declared.pieces.LiteralValue.{LiteralValue}
+use Rattle.cl_tree.specs.declared.pieces.LiteralValue.TheVariants.{Wrong, Unfit, Holds}
+use Rattle.cl_tree.specs.declared.pieces.PieceMeaning.{PieceMeaning}
+use Rattle.cl_tree.specs.declared.pieces.PieceMeaning.TheVariants.{Blank, Bad, Is, Defines}
 use Rattle.cl_tree.specs.declared.pieces.Place.{Place}
 use Rattle.cl_tree.specs.declared.pieces.Rule.{Rule}
 use Rattle.cl_tree.specs.declared.pieces.Rule.TheVariants.{E02, E03, E04, E05, E07}
@@ -49,8 +50,8 @@ pub record IsTaken (fresh : Bool) (p text : List ℕ) : Type 0 where
   pub closed : must_close (opening fresh text) ≡ true → 1 < length p
 
 -- a comment, a string or a character constant stands there and is not closed
-pub record IsUnclosed (fresh : Bool) (text : List ℕ) : Type 0 where
-  pub opens : must_close (opening fresh text) ≡ true
+pub record IsUnclosed (fresh : Bool) (text : List ℕ) (kind : Closed) : Type 0 where
+  pub opens : opening fresh text ≡ Closes kind
   pub none : NoneBeyond fresh 1 text
 
 -- a byte stands there with which no piece begins
@@ -61,56 +62,56 @@ pub record IsNothing (fresh : Bool) (text : List ℕ) : Type 0 where
 
 -- What a piece means.
 
-abbrev pub spelled : Spelling → Reading
-spelled Wrong = Bad E07 0
-spelled Unfit = Bad E07 0
-spelled (Holds (Number v k)) = Is (Integer v k)
-spelled (Holds (Byte b)) = Is (lexeme.Letter b)
+abbrev pub literal_meaning : LiteralValue → PieceMeaning
+literal_meaning Wrong = Bad E07 0
+literal_meaning Unfit = Bad E07 0
+literal_meaning (Holds (Number v k)) = Is (Integer v k)
+literal_meaning (Holds (Byte b)) = Is (lexeme.Letter b)
 
-unfoldable pub number_reading : List ℕ → Reading
-number_reading p = if is_floating p then Is Floating else spelled (integer p)
+unfoldable pub number_meaning : List ℕ → PieceMeaning
+number_meaning p = if is_floating p then Is Floating else literal_meaning (integer p)
 
-abbrev pub string_as : Option (List ℕ) → Reading
+abbrev pub string_as : Option (List ℕ) → PieceMeaning
 string_as None = Bad E07 0
 string_as (Some bytes) = Is (Text bytes)
 
-unfoldable pub string_reading : List ℕ → Reading
-string_reading p = string_as (unescaped 0 [] (inside p))
+unfoldable pub string_meaning : List ℕ → PieceMeaning
+string_meaning p = string_as (unescaped 0 [] (inside p))
 
-abbrev pub mark_as : Option punctuator.Mark → Reading
-mark_as None = Bad E03 0
+abbrev pub mark_as : Option punctuator.Mark → PieceMeaning
+mark_as None = Blank
 mark_as (Some m) = Is (Mark m)
 
-abbrev pub reading_as : Opening → List ℕ → Reading
-reading_as (Runs Letters) p = Is (Word p)
-reading_as (Runs Digits) p = number_reading p
-reading_as (Runs Line) p = Blank
-reading_as (Runs Directive) p = directive p
-reading_as (Closes Comment) p = Blank
-reading_as (Closes Quoted) p = allowed p (string_reading p)
-reading_as (Closes Letter) p = allowed p (spelled (letter p))
-reading_as Space p = Blank
-reading_as Punct p = mark_as (mark p)
-reading_as Other p = Bad E03 0
+abbrev pub meaning_as : Opening → List ℕ → PieceMeaning
+meaning_as (Runs Letters) p = Is (Word p)
+meaning_as (Runs Digits) p = number_meaning p
+meaning_as (Runs Line) p = Blank
+meaning_as (Runs Directive) p = directive p
+meaning_as (Closes Comment) p = Blank
+meaning_as (Closes Quoted) p = allowed p (string_meaning p)
+meaning_as (Closes Letter) p = allowed p (literal_meaning (letter p))
+meaning_as Space p = Blank
+meaning_as Punct p = mark_as (mark p)
+meaning_as Other p = Blank
 
-unfoldable pub reading : Bool → List ℕ → Reading
-reading fresh p = reading_as (opening fresh p) p
+unfoldable pub piece_meaning : Bool → List ℕ → PieceMeaning
+piece_meaning fresh p = meaning_as (opening fresh p) p
 
 -- What is known before a piece: whether it stands first in its line, and what the names mean that are defined.
 
-abbrev pub Meanings : Type 0
-Meanings = List ℕ → Option Literal
+abbrev pub Definitions : Type 0
+Definitions = List ℕ → Option Literal
 
 pub record Before : Type 0 where
   pub fresh : Bool
-  pub meanings : Meanings
+  pub definitions : Definitions
 
 unfoldable pub at_start : Before
-at_start = record { fresh = true; meanings = λ name. None }
+at_start = record { fresh = true; definitions = λ name. None }
 
 -- a newline begins a line, and a space, a tab and CR leave it as it is
 abbrev pub fresh_as : Bool → ℕ → Opening → Bool
-fresh_as fresh b Space = if b == 10 then true else fresh
+fresh_as fresh b Space = if is_newline b then true else fresh
 fresh_as fresh b (Runs r) = false
 fresh_as fresh b (Closes k) = false
 fresh_as fresh b Punct = false
@@ -119,15 +120,15 @@ fresh_as fresh b Other = false
 unfoldable pub fresh_after : Bool → List ℕ → Bool
 fresh_after fresh p = fresh_as fresh (slice_index p 0) (opening fresh p)
 
-abbrev pub meanings_after : Meanings → Reading → Meanings
-meanings_after meanings Blank = meanings
-meanings_after meanings (Bad rule i) = meanings
-meanings_after meanings (Is l) = meanings
-meanings_after meanings (Defines name None at) = meanings
-meanings_after meanings (Defines name (Some l) at) = update bytes_eq meanings name (Some l)
+abbrev pub definitions_after : Definitions → PieceMeaning → Definitions
+definitions_after definitions Blank = definitions
+definitions_after definitions (Bad rule i) = definitions
+definitions_after definitions (Is l) = definitions
+definitions_after definitions (Defines name None at) = definitions
+definitions_after definitions (Defines name (Some l) at) = update bytes_eq definitions name (Some l)
 
 unfoldable pub behind : Before → List ℕ → Before
-behind s p = record { fresh = fresh_after s.fresh p; meanings = meanings_after s.meanings (reading s.fresh p) }
+behind s p = record { fresh = fresh_after s.fresh p; definitions = definitions_after s.definitions (piece_meaning s.fresh p) }
 
 -- The rule that a piece breaks, and at which byte of it. A name that is defined already cannot be defined again.
 abbrev pub definition_flaw : Option Literal → Option Literal → ℕ → Option (Rule × ℕ)
@@ -135,14 +136,14 @@ definition_flaw (Some old) literal at = Some (E05, 0)
 definition_flaw None None at = Some (E07, at)
 definition_flaw None (Some l) at = None
 
-abbrev pub flaw_as : Meanings → Reading → Option (Rule × ℕ)
-flaw_as meanings Blank = None
-flaw_as meanings (Bad rule i) = Some (rule, i)
-flaw_as meanings (Is l) = None
-flaw_as meanings (Defines name literal at) = definition_flaw (meanings name) literal at
+abbrev pub flaw_as : Definitions → PieceMeaning → Option (Rule × ℕ)
+flaw_as definitions Blank = None
+flaw_as definitions (Bad rule i) = Some (rule, i)
+flaw_as definitions (Is l) = None
+flaw_as definitions (Defines name literal at) = definition_flaw (definitions name) literal at
 
 unfoldable pub flaw : Before → List ℕ → Option (Rule × ℕ)
-flaw s p = flaw_as s.meanings (reading s.fresh p)
+flaw s p = flaw_as s.definitions (piece_meaning s.fresh p)
 
 -- The pieces ps, none of which breaks a rule, are what a text begins with, up to the rest. s is what is known before them, and last before the rest.
 abbrev pub IsCut : Before → List (List ℕ) → List ℕ → Before → List ℕ → Type 0
@@ -169,25 +170,25 @@ meant (Some (Number v k)) name = Integer v k
 meant (Some (Byte b)) name = lexeme.Letter b
 
 -- a defined name is replaced by its literal
-abbrev pub replaced : Meanings → Lexeme → Lexeme
-replaced meanings (Word name) = meant (meanings name) name
-replaced meanings (Integer v k) = Integer v k
-replaced meanings Floating = Floating
-replaced meanings (lexeme.Letter b) = lexeme.Letter b
-replaced meanings (Text bytes) = Text bytes
-replaced meanings (Mark m) = Mark m
-replaced meanings (Cle pragma) = Cle pragma
+abbrev pub replaced : Definitions → Lexeme → Lexeme
+replaced definitions (Word name) = meant (definitions name) name
+replaced definitions (Integer v k) = Integer v k
+replaced definitions Floating = Floating
+replaced definitions (lexeme.Letter b) = lexeme.Letter b
+replaced definitions (Text bytes) = Text bytes
+replaced definitions (Mark m) = Mark m
+replaced definitions (Cle pragma) = Cle pragma
 
-abbrev pub token_as : Meanings → Reading → List Place → ℕ → ℕ → List Token
-token_as meanings Blank places at n = []
-token_as meanings (Bad rule i) places at n = []
-token_as meanings (Is what) places at n = token places at n (replaced meanings what) ∷ []
-token_as meanings (Defines name literal i) places at n = []
+abbrev pub token_as : Definitions → PieceMeaning → List Place → ℕ → ℕ → List Token
+token_as definitions Blank places at n = []
+token_as definitions (Bad rule i) places at n = []
+token_as definitions (Is what) places at n = token places at n (replaced definitions what) ∷ []
+token_as definitions (Defines name literal i) places at n = []
 
 -- the tokens of the pieces from a place on
 abbrev pub tokens_from : List Place → Before → ℕ → List (List ℕ) → List Token
 tokens_from places s at [] = []
-tokens_from places s at (p ∷ ps) = token_as s.meanings (reading s.fresh p) places at (length p) ++ tokens_from places (behind s p) (at + length p) ps
+tokens_from places s at (p ∷ ps) = token_as s.definitions (piece_meaning s.fresh p) places at (length p) ++ tokens_from places (behind s p) (at + length p) ps
 
 -- Strings that follow each other are one.
 
@@ -239,21 +240,17 @@ AreTokens source ts = IsLexed (bytes_of source) (places_of source) ts
 
 -- the bytes up to the end of the line
 unfoldable pub to_line_end : List ℕ → List ℕ
-to_line_end text = take (prefix_len (λ b. not (b == 10)) text) text
+to_line_end text = take (prefix_len (λ b. not (is_newline b)) text) text
 
 -- An unfinished piece fails at its start; but a string or a character constant has a byte first that is not allowed, up to the end of its line.
 abbrev pub unfinished_at : Option ℕ → Rule × ℕ
 unfinished_at None = (E04, 0)
 unfinished_at (Some i) = (E02, i)
 
-abbrev pub unfinished : Opening → List ℕ → Rule × ℕ
-unfinished (Closes Comment) text = (E04, 0)
-unfinished (Closes Quoted) text = unfinished_at (position is_bad (to_line_end text))
-unfinished (Closes Letter) text = unfinished_at (position is_bad (to_line_end text))
-unfinished (Runs r) text = (E04, 0)
-unfinished Space text = (E04, 0)
-unfinished Punct text = (E04, 0)
-unfinished Other text = (E04, 0)
+abbrev pub unfinished : Closed → List ℕ → Rule × ℕ
+unfinished Comment text = (E04, 0)
+unfinished Quoted text = unfinished_at (position is_bad (to_line_end text))
+unfinished Letter text = unfinished_at (position is_bad (to_line_end text))
 
 -- a byte with which no piece begins
 unfoldable pub strange : List ℕ → Rule × ℕ
@@ -262,7 +259,7 @@ strange text = if is_bad (slice_index text 0) then (E02, 0) else (E03, 0)
 -- a text has no piece at its start: by this rule it fails, at its i-th byte
 abbrev pub IsStuck : Bool → List ℕ → Rule → ℕ → Type 0
 IsStuck fresh text rule i =
-    (IsUnclosed fresh text × (unfinished (opening fresh text) text ≡ (rule, i)))
+    ((kind : Closed) × IsUnclosed fresh text kind × (unfinished kind text ≡ (rule, i)))
     ⊎ (IsNothing fresh text × (strange text ≡ (rule, i)))
 
 -- a text fails at once, by this rule, at its i-th byte: no piece stands there, or one that breaks a rule
@@ -298,3 +295,7 @@ HasOneAnswer source =
     ((ts us : List Token) → AreTokens source ts → AreTokens source us → ts ≡ us)
     × ((ts : List Token) (rule line : ℕ) → AreTokens source ts → LexFails source rule line → ⊥)
     × ((rule line other place : ℕ) → LexFails source rule line → LexFails source other place → (rule ≡ other) × (line ≡ place))
+
+-- A source has tokens or a failure.
+abbrev pub HasAnswer : List ℕ → Type 0
+HasAnswer source = ((ts : List Token) × AreTokens source ts) ⊎ ((rule : ℕ) × (line : ℕ) × LexFails source rule line)

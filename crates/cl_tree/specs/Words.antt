@@ -1,5 +1,7 @@
 -- The words that are no names, the spellings of types, and what can come out of a source.
-use Rattle.std.specs.Prelude.{ℕ, ◌^◌, List, [], ◌∷◌, map, Option, Some, None, is_none, Bool, true, false, not, ◌&&◌, ◌||◌, ◌==◌, nat_lt, nat_le, if◌then◌else◌, bytes_eq, codes}
+use Rattle.std.specs.Prelude.{ℕ, ◌^◌, ◌-◌, List, [], ◌∷◌, length, slice_index, map, Option, Some, None, is_none, Bool, true, false, not, ◌&&◌, ◌||◌, nat_lt, if◌then◌else◌, bytes_eq, codes}
+use Rattle.std.specs.List.{list_all}
+use Rattle.cl_tree.specs.Letters.{is_blank, is_on_line, is_name}
 use Rattle.cl_tree.specs.declared.kinds.IntKind.{IntKind}
 use Rattle.cl_tree.specs.declared.kinds.IntKind.TheVariants.{I8, U8, I16, U16, I32, U32, Long, ULong, LLong, ULLong}
 use Rattle.cl_tree.specs.declared.token.Pragma.{Pragma}
@@ -62,21 +64,6 @@ spelled_word word = named word (keyword word)
 
 -- ---- what a source can bring
 
-abbrev pub is_letter : ℕ → Bool
-is_letter b = (nat_le 65 b && nat_le b 90) || ((nat_le 97 b && nat_le b 122) || b == 95)
-
-abbrev pub is_digit : ℕ → Bool
-is_digit b = nat_le 48 b && nat_le b 57
-
-abbrev pub each : (ℕ → Bool) → Word → Bool
-each test [] = true
-each test (b ∷ bs) = test b && each test bs
-
--- a letter or `_`, then letters, digits and `_`
-unfoldable pub is_name : Word → Bool
-is_name [] = false
-is_name (b ∷ bs) = is_letter b && each (λ c. is_letter c || is_digit c) bs
-
 -- neither a keyword nor a type word
 unfoldable pub is_free : Word → Bool
 is_free word = is_none (keyword word) && not (is_type_word word)
@@ -97,36 +84,20 @@ literals ULLong = 2 ^ 64
 unfoldable pub is_literal : ℕ → IntKind → Bool
 is_literal value kind = nat_lt value (literals kind)
 
-abbrev pub is_blank : ℕ → Bool
-is_blank b = b == 32 || (b == 9 || b == 13)
-
--- a byte that stands on a line: a space, tab, CR or a printable one
-abbrev pub on_line : ℕ → Bool
-on_line b = b == 9 || (b == 13 || (nat_le 32 b && nat_le b 126))
-
-abbrev pub ends_well : Word → Bool
-ends_well [] = false
-ends_well (b ∷ []) = not (is_blank b)
-ends_well (b ∷ c ∷ cs) = ends_well (c ∷ cs)
-
-abbrev pub begins_well : Word → Bool
-begins_well [] = false
-begins_well (b ∷ bs) = not (is_blank b)
-
--- the text of a `def` line isn't empty and has no blanks at its ends
+-- the text of a `def` line is not empty and has no blanks at its ends
 unfoldable pub is_definition : Word → Bool
-is_definition text = each on_line text && (begins_well text && ends_well text)
+is_definition text = nat_lt 0 (length text) && not (is_blank (slice_index text 0)) && not (is_blank (slice_index text (length text - 1))) && list_all is_on_line text
 
--- a word after which a line is no `#pragma cle NAME`
-unfoldable pub is_directive : Word → Bool
-is_directive word = bytes_eq (codes "def") word || (bytes_eq (codes "begin") word || bytes_eq (codes "end") word)
+-- a word that has a meaning of its own behind `#pragma cle`
+unfoldable pub is_cle_word : Word → Bool
+is_cle_word word = bytes_eq (codes "def") word || (bytes_eq (codes "begin") word || bytes_eq (codes "end") word)
 
 -- a line `#pragma cle` gives it; its name may be a keyword
 unfoldable pub is_pragma : Pragma → Bool
 is_pragma (pragma.Def name text) = is_name name && is_definition text
 is_pragma (pragma.Begin name) = is_name name
 is_pragma (pragma.End name) = is_name name
-is_pragma (pragma.Next name) = is_name name && not (is_directive name)
+is_pragma (pragma.Next name) = is_name name && not (is_cle_word name)
 
 unfoldable pub is_byte : ℕ → Bool
 is_byte b = nat_lt b 256
@@ -136,6 +107,6 @@ unfoldable pub comes : Sign → Bool
 comes (sign.Name name) = is_name name && is_free name
 comes (sign.Integer value kind) = is_literal value kind
 comes (sign.Letter byte) = is_byte byte
-comes (sign.Text bytes) = each is_byte bytes
+comes (sign.Text bytes) = list_all is_byte bytes
 comes (sign.Cle p) = is_pragma p
 comes _ = true

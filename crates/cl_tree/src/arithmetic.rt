@@ -1,9 +1,9 @@
 //! The arithmetic of the integer kinds (C11 6.3.1 and 6.5, at the widths of the profile).
 
 ghost use Rattle.std.specs.Prelude.{◌≡◌, ℕ, ◌^◌, ◌<◌, ◌↔◌, ℤ, pos, ◌+ℤ◌, ◌-ℤ◌, ◌*ℤ◌, true, false, Ok, IfOk};
-ghost use Rattle.cl_tree.specs.Arithmetic.{width, is_signed, least, beyond, fits, residue, value, settled, apply, is_shift, can_shift, shifted_left, shifted_right, quotient, remainder, truth, is_zero, rank, promoted, common, unsigned_counterpart, holds_all_of, mixed};
+ghost use Rattle.cl_tree.specs.Arithmetic.{width, is_signed, least, beyond, fits, residue, value, settled, apply, is_shift, apply_one, is_arithmetic, all_ones, letter_value, can_shift, shifted_left, shifted_right, quotient, remainder, truth, is_zero, rank, promoted, common, unsigned_counterpart, holds_all_of, mixed};
 
-use crate::kinds::{BinOp, IntKind, TrapCause};
+use crate::kinds::{BinOp, IntKind, TrapCause, UnOp};
 
 impl IntKind {
     /// How many bits a value has.
@@ -352,191 +352,41 @@ pub fn apply(op: BinOp, kind: IntKind, a: i128, b: i128) -> Result<i128, TrapCau
     }
 }
 
-#[cfg(test)]
-mod tests {
-    use super::*;
-    use crate::kinds::BinOp::{
-        Add, And, AtLeast, AtMost, BitAnd, BitOr, Div, Equal, Greater, Left, Less, Mul, Or, Rem,
-        Right, Sub, Unequal, Xor,
-    };
-    use crate::kinds::IntKind::{I8, I16, I32, LLong, Long, U8, U16, U32, ULLong, ULong};
-    use crate::kinds::TrapCause::{Divide, Overflow, Shift};
-
-    /// The greatest number of 64 bits, and the greatest and the least signed one.
-    const MOST: i128 = 18446744073709551615;
-
-    const MOST_SIGNED: i128 = 9223372036854775807;
-
-    const LEAST_SIGNED: i128 = -9223372036854775808;
-
-    #[test]
-    fn converts(rt: HostRuntime) {
-        for (kind, n, want) in [
-            (I8, 200, -56),
-            (I8, -128, -128),
-            (I8, -129, 127),
-            (U8, 256, 0),
-            (I16, 40000, -25536),
-            (U16, -1, 65535),
-            (I32, 2147483648, -2147483648),
-            (U32, -1, 4294967295),
-            (Long, MOST_SIGNED + 1, LEAST_SIGNED),
-            (ULong, -1, MOST),
-            (LLong, 18446744073709551621, 5),
-            (ULLong, 18446744073709551616, 0),
-        ] {
-            assert_eq!(rt; convert(kind, n), want, "{n} in {kind:?}");
-        }
+/// The bits of a kind, all of them 1.
+#[tactic(auto, unfolding(crate::specs::Arithmetic::width, crate::specs::Arithmetic::all_ones))]
+fn all_ones(kind: IntKind) -> u64
+    ensures { result ≡ all_ones kind }
+{
+    match kind {
+        IntKind::I8 | IntKind::U8 => 0xff,
+        IntKind::I16 | IntKind::U16 => 0xffff,
+        IntKind::I32 | IntKind::U32 => 0xffff_ffff,
+        IntKind::Long | IntKind::ULong | IntKind::LLong | IntKind::ULLong => 0xffff_ffff_ffff_ffff,
     }
+}
 
-    #[test]
-    fn knows_the_ranges(rt: HostRuntime) {
-        for (kind, width, signed, least, greatest) in [
-            (I8, 8, true, -128, 127),
-            (U8, 8, false, 0, 255),
-            (I16, 16, true, -32768, 32767),
-            (U16, 16, false, 0, 65535),
-            (I32, 32, true, -2147483648, 2147483647),
-            (U32, 32, false, 0, 4294967295),
-            (Long, 64, true, LEAST_SIGNED, MOST_SIGNED),
-            (ULong, 64, false, 0, MOST),
-            (LLong, 64, true, LEAST_SIGNED, MOST_SIGNED),
-            (ULLong, 64, false, 0, MOST),
-        ] {
-            assert_eq!(rt; kind.width(), width, "{kind:?}");
-            assert_eq!(rt; kind.is_signed(), signed, "{kind:?}");
-            assert!(rt; fits(kind, least) && fits(kind, greatest), "{kind:?}");
-            let (before, after) = (least - 1i128, greatest + 1i128);
-            assert!(rt; !fits(kind, before) && !fits(kind, after), "{kind:?}");
-        }
+/// The value of an operator on one value of `kind`, or why it traps (C11 6.5.3.3). `*` and `&` are
+/// operators of pointers, and `kind` is a promoted one wherever a program has the operator.
+#[tactic(auto, unfolding(crate::specs::Arithmetic::apply_one, crate::specs::Arithmetic::is_arithmetic))]
+pub fn apply_one(op: UnOp, kind: IntKind, a: i128) -> Result<i128, TrapCause>
+    requires arithmetic { is_arithmetic op ≡ true }
+    requires operand { fits kind a ≡ true }
+    ensures value { result ≡ apply_one op kind a }
+    ensures fits { IfOk result (λ r. fits kind r ≡ true) }
+{
+    match op {
+        UnOp::Minus => settle(kind, -a),
+        UnOp::Flip => Ok(convert(kind, i128::from(bits(kind, a) ^ all_ones(kind)))),
+        UnOp::Not => Ok(truth(is_zero(a))),
+        UnOp::Plus | UnOp::Star | UnOp::Amp => Ok(a),
     }
+}
 
-    /// `apply` on two numbers of the kind.
-    fn applied(op: BinOp, kind: IntKind, a: i128, b: i128) -> Option<Result<i128, TrapCause>> {
-        if fits(kind, a) && fits(kind, b) {
-            Some(apply(op, kind, a, b))
-        } else {
-            None
-        }
-    }
-
-    #[test]
-    fn compares(rt: HostRuntime) {
-        for (op, kind, a, b, want) in [
-            (Or, I32, 0, 0, 0),
-            (Or, I32, 0, 5, 1),
-            (Or, I32, -5, 0, 1),
-            (And, I32, 2, 0, 0),
-            (And, I32, 0, 2, 0),
-            (And, I32, 2, -1, 1),
-            (Equal, I32, 3, 3, 1),
-            (Equal, I32, 3, 4, 0),
-            (Unequal, I32, 3, 3, 0),
-            (Unequal, I32, 3, 4, 1),
-            (Less, I32, -1, 0, 1),
-            (Less, U32, 4294967295, 0, 0),
-            (Greater, U8, 255, 1, 1),
-            (Greater, I32, 3, 3, 0),
-            (AtMost, I32, 3, 3, 1),
-            (AtMost, I32, 4, 3, 0),
-            (AtLeast, I32, 3, 3, 1),
-            (AtLeast, I32, -1, 0, 0),
-        ] {
-            assert_eq!(rt; applied(op, kind, a, b), Some(Ok(want)), "{a} {op:?} {b}");
-        }
-    }
-
-    #[test]
-    fn works_on_bits(rt: HostRuntime) {
-        for (op, kind, a, b, want) in [
-            (BitOr, I32, 12, 10, Ok(14)),
-            (BitOr, I32, -256, 15, Ok(-241)),
-            (Xor, I8, -1, 1, Ok(-2)),
-            (Xor, U8, 255, 15, Ok(240)),
-            (BitAnd, I32, -1, 255, Ok(255)),
-            (BitAnd, Long, -2, -3, Ok(-4)),
-            (Left, I32, 1, 30, Ok(1073741824)),
-            (Left, I32, 1, 31, Err(Overflow)),
-            (Left, I32, 1, 32, Err(Shift)),
-            (Left, I32, 1, -1, Err(Shift)),
-            (Left, I32, -1, 1, Err(Shift)),
-            (Left, U32, 1, 31, Ok(2147483648)),
-            (Left, U32, 4294967295, 1, Ok(4294967294)),
-            (Left, ULong, 1, 63, Ok(9223372036854775808)),
-            (Right, I32, -5, 1, Ok(-3)),
-            (Right, I32, 1, 32, Err(Shift)),
-            (Right, I32, 1, -1, Err(Shift)),
-            (Right, U32, 4294967295, 31, Ok(1)),
-            (Right, Long, -1, 63, Ok(-1)),
-        ] {
-            assert_eq!(rt; applied(op, kind, a, b), Some(want), "{a} {op:?} {b}");
-        }
-    }
-
-    #[test]
-    fn calculates(rt: HostRuntime) {
-        for (op, kind, a, b, want) in [
-            (Add, I32, 2147483647, 1, Err(Overflow)),
-            (Add, U32, 4294967295, 1, Ok(0)),
-            (Add, Long, -3, 5, Ok(2)),
-            (Sub, U32, 0, 1, Ok(4294967295)),
-            (Sub, I32, -2147483648, 1, Err(Overflow)),
-            (Sub, I32, 0, 5, Ok(-5)),
-            (Mul, ULong, MOST, MOST, Ok(1)),
-            (Mul, U32, 65536, 65536, Ok(0)),
-            (Mul, I32, 65536, 65536, Err(Overflow)),
-            (Mul, LLong, 3037000500, 3037000500, Err(Overflow)),
-            (Mul, Long, -3, 5, Ok(-15)),
-            (Div, I32, -2147483648, -1, Err(Overflow)),
-            (Div, I32, 7, 0, Err(Divide)),
-            (Div, I32, -7, 2, Ok(-3)),
-            (Div, U32, 4294967295, 2, Ok(2147483647)),
-            (Rem, I32, -2147483648, -1, Err(Overflow)),
-            (Rem, I32, 7, 0, Err(Divide)),
-            (Rem, I32, -7, 3, Ok(-1)),
-            (Rem, I32, 7, -3, Ok(1)),
-            (Rem, U8, 255, 16, Ok(15)),
-        ] {
-            assert_eq!(rt; applied(op, kind, a, b), Some(want), "{a} {op:?} {b}");
-        }
-    }
-
-    #[test]
-    fn promotes(rt: HostRuntime) {
-        for (kind, want) in [
-            (I8, I32),
-            (U8, I32),
-            (I16, I32),
-            (U16, I32),
-            (I32, I32),
-            (U32, U32),
-            (Long, Long),
-            (ULLong, ULLong),
-        ] {
-            assert_eq!(rt; kind.promoted(), want, "{kind:?}");
-        }
-    }
-
-    #[test]
-    fn finds_the_common_kind(rt: HostRuntime) {
-        for (a, b, want) in [
-            (U8, I16, I32),
-            (U16, U16, I32),
-            (I8, U32, U32),
-            (I32, U32, U32),
-            (I32, Long, Long),
-            (I32, ULong, ULong),
-            (U32, ULong, ULong),
-            (Long, U32, Long),
-            (Long, ULong, ULong),
-            (Long, LLong, LLong),
-            (Long, ULLong, ULLong),
-            (LLong, U32, LLong),
-            (LLong, ULong, ULLong),
-            (ULong, ULLong, ULLong),
-        ] {
-            assert_eq!(rt; a.common(b), want, "{a:?} and {b:?}");
-            assert_eq!(rt; b.common(a), want, "{b:?} and {a:?}");
-        }
-    }
+/// The value of a character constant of one byte, in which `char` is signed (C11 6.4.4.4).
+#[tactic(auto, unfolding(crate::specs::Arithmetic::letter_value))]
+pub fn letter_value(byte: u8) -> i128
+    ensures value { result ≡ letter_value byte }
+    ensures fits { fits IntKind.I8 result ≡ true }
+{
+    convert(IntKind::I8, i128::from(byte))
 }

@@ -5,6 +5,7 @@ pub mod arithmetic;
 pub mod bytes;
 pub mod grammar;
 pub mod kinds;
+pub mod letters;
 pub mod pieces;
 pub mod token;
 pub mod tree;

@@ -87,9 +87,9 @@ pub enum Literal {
     Byte(u8),
 }
 
-/// How an integer literal or a character constant is spelled.
+/// What the bytes of an integer literal or a character constant mean.
 #[derive(Clone, Copy, Debug, PartialEq, Eq)]
-pub enum Spelling {
+pub enum LiteralValue {
     /// It is none.
     Wrong,
     /// It is one, but no type holds its value, or no byte.
@@ -106,6 +106,21 @@ pub enum Escape {
     Value(u8, usize),
 }
 
+/// The escapes of one letter behind the backslash, and the bytes that they mean.
+pub const ESCAPES: [(u8, u8); 11] = [
+    (b'n', b'\n'),
+    (b't', b'\t'),
+    (b'r', b'\r'),
+    (b'a', 7),
+    (b'b', 8),
+    (b'f', 12),
+    (b'v', 11),
+    (b'\\', b'\\'),
+    (b'\'', b'\''),
+    (b'"', b'"'),
+    (b'?', b'?'),
+];
+
 /// Where in a directive line a byte stands.
 #[derive(Clone, Copy, Debug, PartialEq, Eq)]
 pub enum Part {
@@ -119,9 +134,9 @@ pub enum Part {
     ToEnd,
 }
 
-/// What a piece is.
+/// What a piece means.
 #[derive(Debug, Drop)]
-pub enum Reading {
+pub enum PieceMeaning {
     Blank,
     /// It breaks a rule at this byte of it.
     Bad(Rule, usize),

@@ -1,7 +1,11 @@
 //! Tokens.
 
+ghost use Rattle.std.specs.Prelude.{◌≡◌};
+ghost use Rattle.cl_tree.specs.Words.{is_cle_word};
+
 use crate::bytes::Bytes;
 use crate::kinds::IntKind;
+use crate::words::same;
 use cl_base::name::Name;
 
 /// The punctuators (C11 6.4.6, without digraphs).
@@ -57,6 +61,58 @@ pub enum Mark {
     HashHash,
 }
 
+/// The punctuators by their texts.
+pub const MARKS: [(&[u8], Mark); 48] = [
+    (b"(", Mark::OpenParen),
+    (b")", Mark::CloseParen),
+    (b"[", Mark::OpenBracket),
+    (b"]", Mark::CloseBracket),
+    (b"{", Mark::OpenBrace),
+    (b"}", Mark::CloseBrace),
+    (b";", Mark::Semicolon),
+    (b",", Mark::Comma),
+    (b".", Mark::Dot),
+    (b"->", Mark::Arrow),
+    (b"...", Mark::Ellipsis),
+    (b"=", Mark::Assign),
+    (b"+=", Mark::PlusAssign),
+    (b"-=", Mark::MinusAssign),
+    (b"*=", Mark::StarAssign),
+    (b"/=", Mark::SlashAssign),
+    (b"%=", Mark::PercentAssign),
+    (b"<<=", Mark::LeftAssign),
+    (b">>=", Mark::RightAssign),
+    (b"&=", Mark::AmpAssign),
+    (b"|=", Mark::BarAssign),
+    (b"^=", Mark::CaretAssign),
+    (b"++", Mark::PlusPlus),
+    (b"--", Mark::MinusMinus),
+    (b"+", Mark::Plus),
+    (b"-", Mark::Minus),
+    (b"*", Mark::Star),
+    (b"/", Mark::Slash),
+    (b"%", Mark::Percent),
+    (b"~", Mark::Tilde),
+    (b"!", Mark::Bang),
+    (b"&", Mark::Amp),
+    (b"|", Mark::Bar),
+    (b"^", Mark::Caret),
+    (b"<<", Mark::LeftShift),
+    (b">>", Mark::RightShift),
+    (b"<", Mark::Less),
+    (b">", Mark::Greater),
+    (b"<=", Mark::AtMost),
+    (b">=", Mark::AtLeast),
+    (b"==", Mark::Equal),
+    (b"!=", Mark::Unequal),
+    (b"&&", Mark::AmpAmp),
+    (b"||", Mark::BarBar),
+    (b"?", Mark::Question),
+    (b":", Mark::Colon),
+    (b"#", Mark::Hash),
+    (b"##", Mark::HashHash),
+];
+
 /// A line `#pragma cle`, which is a token of its own.
 #[derive(Debug, Drop)]
 pub enum Pragma {
@@ -68,6 +124,14 @@ pub enum Pragma {
     End(Name),
     /// `NAME`, for the next item.
     Next(Name),
+}
+
+/// Whether a word has a meaning of its own behind `#pragma cle`.
+#[tactic(auto, unfolding(crate::specs::Words::is_cle_word))]
+pub fn is_cle_word(word: &[u8]) -> bool
+    ensures { result ≡ is_cle_word word.now }
+{
+    same(b"def", word) || same(b"begin", word) || same(b"end", word)
 }
 
 /// What a token is.

@@ -2,9 +2,12 @@
 
 mod kinds;
 mod limits;
+mod parsing;
+mod plain;
 mod refusals;
 mod shown;
 mod spelling;
+mod tokens;
 mod values;
 
 use cl_base::limits::SOURCE_BYTES;

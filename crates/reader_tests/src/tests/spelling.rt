@@ -75,8 +75,9 @@ fn is_well_formed(alloc: Global, source: &str) -> Result<bool, Fail> {
 }
 
 // Between them these use each form of item, statement and expression.
-const SOURCES: [&str; 30] = [
+const SOURCES: [&str; 31] = [
     "",
+    "#pragma cle def P {\t\"level\":\"purple\"}\nint a;\n",
     "#pragma cle def P {\"level\":\"p\"}\n#pragma cle P\nint a;\n#pragma cle begin Q\n#pragma cle end Q\n",
     "struct s {\n  int a, *b[2][3];\n  struct t *\nc;\n};",
     "static int a = 1,\n *b = &a,\n **c[2] = {&b, {d}};",

@@ -19,7 +19,7 @@ loop-at-preserved c =
     let l = length-drop c.loop-at.at c.args.text.now in
     record {
       within = omega (arith, p.within);
-      sofar = one_more c.args.text.now c.args.places.now c.loop-at.out.items c.add.new.out.items (before c.loop-at.fresh (λ q. get (pointwise nat_eq) c.loop-at.defined q)) c.in-Ok.piece.fresh (λ q. get (pointwise nat_eq) c.add.new.defined q) c.loop-at.at c.in-Ok.piece.len c.in-Ok.piece.found c.loop-at.invariant.within c.loop-at.invariant.sofar p c.in_ok-add-in-Ok.ensures.meanings c.in_ok-add-in-Ok.ensures.tokens;
+      sofar = one_more c.args.text.now c.args.places.now c.loop-at.out.items c.add.new.out.items (before c.loop-at.fresh (λ q. get (pointwise nat_eq) c.loop-at.defined q)) c.in-Ok.piece.fresh (λ q. get (pointwise nat_eq) c.add.new.defined q) c.loop-at.at c.in-Ok.piece.len c.in-Ok.piece.found c.loop-at.invariant.within c.loop-at.invariant.sofar p c.in_ok-add-in-Ok.ensures.definitions c.in_ok-add-in-Ok.ensures.tokens;
     }
 
 pub returns-in-Err-Fault-clause-fails : goal.returns-in-Err-Fault-clause-fails

@@ -1,6 +1,5 @@
-use Rattle.std.proofs.Common.{◌≡◌, ◌<◌, sym, ◌∙◌, arith, subst, drop, false, Some, None, ap, inl}
+use Rattle.std.proofs.Common.{◌≡◌, ◌<◌, sym, ◌∙◌, arith, subst, drop, false, Some, None, inl}
 use Rattle.cl_lex.specs.Scans.{closing}
-use Rattle.cl_tree.specs.Tokens.{unfinished}
 use Rattle.cl_lex.proofs.Taken.{run_taken, close_taken, close_stuck, opening_within, space_taken, punct_taken, punct_stuck, other_stuck}
 use Rattle.cl_lex.proofs.lex.piece_len.Goals as goal
 
@@ -31,7 +30,7 @@ returns-in-None-clause-stuck c =
     let text = c.args.text.now in
     let h = opening_within c.args.fresh k text c.requires (sym c.in-Closes.ensures) in
     let s = close_stuck c.args.fresh k text h (sym c.in-Closes.ensures) (subst (λ a. closing k a false (drop a text) ≡ None) c.opening_len.ensures (sym c.in-None.ensures)) in
-    inl (s, ap (λ o. unfinished o text) (sym c.in-Closes.ensures) ∙ sym c.unfinished.ensures)
+    inl (k, s, sym c.unfinished.ensures)
 
 pub returns-in-Space-clause-taken : goal.returns-in-Space-clause-taken
 returns-in-Space-clause-taken c = space_taken c.args.fresh c.args.text.now c.requires (sym c.in-Space.ensures)

@@ -22,10 +22,10 @@ pub write_stmt-returns-in_ok-write_maybe_expr-in-Return : goal.write_stmt-return
 write_stmt-returns-in_ok-write_maybe_expr-in-Return t c =
     let e = return_spelling c.args.s.now c.in-Return.e c.in-Return.is in rw e (search (rules, append_assoc))
 
-pub write_stmt-returns-in_ok-write_key_at-in-Break : goal.write_stmt-returns-in_ok-write_key_at-in-Break
-write_stmt-returns-in_ok-write_key_at-in-Break t c =
+pub write_stmt-returns-in_ok-write_begin-in-Break : goal.write_stmt-returns-in_ok-write_begin-in-Break
+write_stmt-returns-in_ok-write_begin-in-Break t c =
     let e = break_spelling c.args.s.now c.in-Break.is in rw e (search (rules, append_assoc))
 
-pub write_stmt-returns-in_ok-write_key_at-in-Continue : goal.write_stmt-returns-in_ok-write_key_at-in-Continue
-write_stmt-returns-in_ok-write_key_at-in-Continue t c =
+pub write_stmt-returns-in_ok-write_begin-in-Continue : goal.write_stmt-returns-in_ok-write_begin-in-Continue
+write_stmt-returns-in_ok-write_begin-in-Continue t c =
     let e = continue_spelling c.args.s.now c.in-Continue.is in rw e (search (rules, append_assoc))
