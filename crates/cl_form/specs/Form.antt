@@ -16,8 +16,11 @@ use Rattle.cl_tree.specs.declared.tree.Act.TheOpen as act
 use Rattle.cl_tree.specs.declared.tree.Item.{Item}
 use Rattle.cl_tree.specs.declared.tree.Item.TheVariants.{Variables, Function, Cle}
 use Rattle.cl_tree.specs.declared.tree.Program.{Program}
-use Rattle.cl_tree.specs.Words.{Word, listed, is_letter, is_digit, is_directive}
-use Rattle.cl_mean.specs.declared.checked.Operation.TheVariants.{Allow}
+use Rattle.cl_tree.specs.Letters.{is_letter, is_digit}
+use Rattle.cl_tree.specs.Words.{Word, listed, is_cle_word}
+use Rattle.cl_mean.specs.declared.labels.Operation.TheVariants.{Allow}
+use Rattle.cl_mean.specs.declared.labels.LabelTable.{LabelTable}
+use Rattle.cl_mean.specs.declared.checked.Flow.{Flow}
 use Rattle.cl_mean.specs.declared.checked.GedlRow.{GedlRow}
 use Rattle.cl_mean.specs.declared.checked.GedlRows.{GedlRows}
 use Rattle.cl_mean.specs.declared.checked.Typed.{Typed}
@@ -186,6 +189,13 @@ abbrev pub alone_program : Word → Word → ℕ → ℕ → List Stmt → Progr
 alone_program label level line second body =
     record { items = Cle (Def label (level_text level)) 1 ∷ function_item (codes "main") line second body ∷ [] }
 
+-- The tables of labels and of carried labels are empty in a form's checked program: its run looks at neither.
+abbrev pub unlabelled : List Word → LabelTable
+unlabelled levels = record { levels = levels; labels = []; on_functions = []; on_objects = [] }
+
+abbrev pub no_flow : Flow
+no_flow = record { objects = []; locals = []; results = [] }
+
 -- what the program is, checked; `line` is that of the name `main`
 abbrev pub alone_checked : Program → Word → ℕ → Checked
 alone_checked program level line = record {
@@ -194,8 +204,9 @@ alone_checked program level line = record {
     functions = record { name = codes "main"; item = 1; line = line } ∷ [];
     objects = [];
   };
-  labels = record { levels = level ∷ [] };
+  labels = unlabelled (level ∷ []);
   levels = record { of_functions = 0 ∷ []; of_objects = []; main = 0 };
+  flow = no_flow;
   gedl = record { levels = level ∷ []; main = 0; rows = [] };
 }
 
@@ -234,7 +245,7 @@ are_levels p = is_level p.near && (is_level p.far && not (bytes_eq p.near p.far)
 unfoldable pub is_pair : Pair → Bool
 is_pair p =
     are_levels p && (distinct (pair_names p)
-    && (list_all (λ w. not (is_directive w)) (pair_labels p) && list_all (λ w. not (listed reserved w)) (p.variable_name ∷ p.function_name ∷ [])))
+    && (list_all (λ w. not (is_cle_word w)) (pair_labels p) && list_all (λ w. not (listed reserved w)) (p.variable_name ∷ p.function_name ∷ [])))
 
 abbrev pub pair_text : Pair → List ℕ
 pair_text p = function_text p.far p.near p.variable_label p.result_label
@@ -301,8 +312,9 @@ pair_gedl p crosses = record { levels = p.near ∷ p.far ∷ []; main = 0; rows 
 abbrev pub pair_checked : Program → Pair → ℕ → ℕ → Bool → Checked
 pair_checked program p line main_line crosses = record {
   typed = pair_typed program p line main_line;
-  labels = record { levels = p.near ∷ p.far ∷ [] };
+  labels = unlabelled (p.near ∷ p.far ∷ []);
   levels = record { of_functions = 1 ∷ 0 ∷ []; of_objects = 1 ∷ []; main = 0 };
+  flow = no_flow;
   gedl = pair_gedl p crosses;
 }
 

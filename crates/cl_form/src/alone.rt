@@ -4,14 +4,14 @@ ghost use Rattle.std.specs.Prelude.{◌≡◌, IfOk, Some};
 ghost use Rattle.cl_form.specs.Form.{alone_checked};
 ghost use Rattle.cl_form.specs.Reading.{Gives, is_main, alone_of, read_alone};
 
-use crate::checked::{alone_gedl, alone_levels, alone_typed, levels_of};
+use crate::checked::{alone_gedl, alone_levels, alone_typed, levels_of, no_flow, unlabelled};
 use crate::head::{alone_head, is_headed};
 use crate::names::Alone;
 use crate::part::{function_of, level_def};
 use crate::shape::is_main;
 use crate::stop::FormStop;
 use cl_base::name::NoMemory;
-use cl_mean::checked::{Checked, LabelTable};
+use cl_mean::checked::Checked;
 use cl_tree::tree::{Item, Program};
 use std::alloc::Global;
 
@@ -40,10 +40,9 @@ fn alone_checked(alloc: Global, program: Program, found: &Alone) -> Result<Check
 {
     Ok(Checked {
         typed: alone_typed(alloc, program, found.line)?,
-        labels: LabelTable {
-            levels: levels_of(alloc, &found.level)?,
-        },
+        labels: unlabelled(alloc, levels_of(alloc, &found.level)?),
         levels: alone_levels(alloc)?,
+        flow: no_flow(alloc),
         gedl: alone_gedl(alloc, &found.level)?,
     })
 }

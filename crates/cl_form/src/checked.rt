@@ -3,11 +3,12 @@
 ghost use Rattle.std.specs.Prelude.{◌≡◌, [], ◌∷◌, codes, IfOk, None, if◌then◌else◌};
 ghost use Rattle.cl_tree.specs.declared.tree.CType.TheVariants as ctype;
 ghost use Rattle.cl_tree.specs.declared.kinds.IntKind.TheVariants.{I32};
-ghost use Rattle.cl_form.specs.Form.{pair_typed, pair_row, pair_gedl};
+ghost use Rattle.cl_form.specs.Form.{unlabelled, no_flow, pair_typed, pair_row, pair_gedl};
 
 use crate::names::{Found, Pair};
 use cl_base::name::{Name, NoMemory};
-use cl_mean::checked::{FnFact, GedlRow, GedlRows, Levels, ObjFact, Operation, Typed};
+use cl_mean::checked::{Flow, FnFact, GedlRow, GedlRows, Levels, ObjFact, Typed};
+use cl_mean::labels::{LabelTable, Operation};
 use cl_tree::kinds::IntKind;
 use cl_tree::tree::{CType, Program};
 use sqlite_items::Items;
@@ -36,6 +37,29 @@ pub fn both_levels(alloc: Global, near: &Name, far: &Name) -> Result<Items<Name>
     let mut all = levels_of(alloc, near)?;
     all.push(far.copy(alloc)?)?;
     Ok(all)
+}
+
+/// A table of these levels. What the labels say is no part of a form yet.
+pub fn unlabelled(alloc: Global, levels: Items<Name>) -> LabelTable
+    ensures { result ≡ unlabelled levels }
+{
+    LabelTable {
+        levels,
+        labels: Items::new(alloc),
+        on_functions: Items::new(alloc),
+        on_objects: Items::new(alloc),
+    }
+}
+
+/// No labels are followed in a form yet.
+pub fn no_flow(alloc: Global) -> Flow
+    ensures { result ≡ no_flow }
+{
+    Flow {
+        objects: Items::new(alloc),
+        locals: Items::new(alloc),
+        results: Items::new(alloc),
+    }
 }
 
 /// `main`, with its place and the line of its name.

@@ -10,6 +10,4 @@ pub mod pair;
 pub mod part;
 pub mod shape;
 pub mod stop;
-#[cfg(test)]
-mod tests;
 pub mod text;

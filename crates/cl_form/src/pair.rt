@@ -2,11 +2,11 @@
 
 ghost use Rattle.std.specs.Prelude.{◌≡◌, [], ◌∷◌, map, not, IfOk};
 ghost use Rattle.std.specs.List.{list_all};
-ghost use Rattle.cl_tree.specs.Words.{is_directive, listed};
+ghost use Rattle.cl_tree.specs.Words.{is_cle_word, listed};
 ghost use Rattle.cl_form.specs.Form.{distinct, reserved, pair_labels, pair_names, are_levels, is_pair, pair_checked};
 ghost use Rattle.cl_form.specs.Reading.{Gives, variable_of, label_at, function_name, names_of, is_bound, bound, functions_of, pair_of, read_pair};
 
-use crate::checked::{both_levels, pair_gedl, pair_levels, pair_typed};
+use crate::checked::{both_levels, no_flow, pair_gedl, pair_levels, pair_typed, unlabelled};
 use crate::head::{function_text, is_headed, level_text, pair_head};
 use crate::names::{Found, Pair};
 use crate::part::{def_at, function_of, is_def, is_next, level_def, variable_of};
@@ -14,20 +14,14 @@ use crate::shape::{any_calls, is_main, is_other};
 use crate::stop::FormStop;
 use crate::text::is_level;
 use cl_base::name::{Name, NoMemory};
-use cl_mean::checked::{Checked, LabelTable};
+use cl_mean::checked::Checked;
+use cl_tree::token::is_cle_word;
 use cl_tree::tree::{Item, Program};
-use cl_tree::words::{listed, same};
+use cl_tree::words::listed;
 use std::alloc::Global;
 
 /// The functions whose names the other function can't have.
 const RESERVED: [&[u8]; 4] = [b"main", b"printf", b"putchar", b"getchar"];
-
-#[tactic(auto, unfolding(cl_tree::specs::Words::is_directive))]
-fn is_directive(word: &[u8]) -> bool
-    ensures { result ≡ is_directive word.now }
-{
-    same(b"def", word) || same(b"begin", word) || same(b"end", word)
-}
 
 /// Do no two of the words agree?
 #[tactic(auto, unfolding(crate::specs::Form::distinct))]
@@ -45,10 +39,10 @@ fn is_distinct(mut words: &[&[u8]]) -> bool
 
 /// Can each stand behind `#pragma cle`?
 fn are_labels(mut words: &[&[u8]]) -> bool
-    ensures { result ≡ list_all (λ w. not (is_directive w)) (map (λ w. w.now) words.entry.now) }
+    ensures { result ≡ list_all (λ w. not (is_cle_word w)) (map (λ w. w.now) words.entry.now) }
 {
     while let [first, rest @ ..] = words {
-        if is_directive(first) {
+        if is_cle_word(first) {
             return false;
         }
         words = rest;
@@ -89,7 +83,7 @@ fn all_distinct(p: &Pair) -> bool
 }
 
 fn all_labels(p: &Pair) -> bool
-    ensures { result ≡ list_all (λ w. not (is_directive w)) (pair_labels p.now) }
+    ensures { result ≡ list_all (λ w. not (is_cle_word w)) (pair_labels p.now) }
 {
     are_labels(&[
         p.near_label.as_bytes(),
@@ -286,10 +280,12 @@ fn pair_checked(alloc: Global, program: Program, found: &Found) -> Result<Checke
 {
     Ok(Checked {
         typed: pair_typed(alloc, program, found)?,
-        labels: LabelTable {
-            levels: both_levels(alloc, &found.names.near, &found.names.far)?,
-        },
+        labels: unlabelled(
+            alloc,
+            both_levels(alloc, &found.names.near, &found.names.far)?,
+        ),
         levels: pair_levels(alloc)?,
+        flow: no_flow(alloc),
         gedl: pair_gedl(alloc, &found.names, found.crosses)?,
     })
 }

@@ -2,27 +2,15 @@
 
 ghost use Rattle.std.specs.Prelude.{◌≡◌, nat_le, length};
 ghost use Rattle.std.specs.List.{list_all};
-ghost use Rattle.cl_tree.specs.Words.{is_letter, is_digit};
 ghost use Rattle.cl_form.specs.Form.{is_blank, is_word_byte, is_mark, is_plain, has_needless_zero, is_plain_word, is_level_byte, words, is_plain_text, is_level};
 
+use cl_tree::letters::{is_digit, is_letter};
 use cl_tree::words::listed;
 
 fn is_blank(b: u8) -> bool
     ensures { result ≡ is_blank b }
 {
     b == b' ' || b == b'\t' || b == b'\n'
-}
-
-fn is_digit(b: u8) -> bool
-    ensures { result ≡ is_digit b }
-{
-    b >= b'0' && b <= b'9'
-}
-
-fn is_letter(b: u8) -> bool
-    ensures { result ≡ is_letter b }
-{
-    (b >= b'A' && b <= b'Z') || ((b >= b'a' && b <= b'z') || b == b'_')
 }
 
 fn is_word_byte(b: u8) -> bool

@@ -1,124 +1,175 @@
--- What a call does that crosses from one level to another.
-use Rattle.std.specs.Prelude.{ℕ, zero, suc, Bool, ◌+◌, ℤ, true, false, List, [], ◌∷◌, ◌++◌, map, Result, Ok, Err, Option, Some, None, nat_le, bytes_eq, ◌==◌, ◌&&◌, if◌then◌else◌}
-use Rattle.cl_tree.specs.declared.kinds.IntKind.{IntKind}
-use Rattle.cl_tree.specs.declared.kinds.TrapCause.TheVariants.{Return, Frames}
-use Rattle.cl_tree.specs.declared.kinds.IntKind.TheVariants.{I32}
-use Rattle.cl_tree.specs.declared.tree.CType.{CType, CType-F, out-CType}
-use Rattle.cl_tree.specs.declared.tree.CType.TheOpen as ctype
-use Rattle.cl_tree.specs.declared.tree.CType.TheVariants.{Integer}
-use Rattle.cl_tree.specs.declared.tree.Stmt.{Stmt}
-use Rattle.cl_tree.specs.declared.tree.Item.{Item}
-use Rattle.cl_tree.specs.declared.tree.Item.TheVariants.{Function}
-use Rattle.cl_tree.specs.Arithmetic.{value}
-use Rattle.cl_tree.specs.Words.{Word}
-use Rattle.cl_mean.specs.declared.checked.GedlRow.{GedlRow}
-use Rattle.cl_mean.specs.declared.checked.Checked.{Checked}
-use Rattle.cl_mean.specs.declared.crossing.Content.{Content}
-use Rattle.cl_mean.specs.declared.crossing.Content.TheVariants.{Values, Broken}
-use Rattle.cl_mean.specs.declared.crossing.Crossing.{Crossing}
-use Rattle.cl_mean.specs.declared.outcome.Flow.{Flow}
-use Rattle.cl_mean.specs.declared.outcome.Flow.TheVariants.{GoesOn, Returns}
-use Rattle.cl_mean.specs.declared.state.Context.{Context}
-use Rattle.cl_mean.specs.declared.state.State.{State}
-use Rattle.cl_mean.specs.State.{Halt, Step, pure, trapped, cost_at, with_cost, ◌>>=◌}
-use Rattle.cl_mean.specs.Evaluation.{Scope, unsettled}
-use Rattle.cl_mean.specs.Execution.{run, in_turn}
+-- What a call does.
+use Rattle.std.specs.Prelude.{ℕ, zero, suc, true, false, ◌+◌, ◌==◌, List, [], ◌∷◌, ◌++◌, map, Option, Some, None, if◌then◌else◌}
+use Rattle.cl_tree.specs.declared.kinds.TrapCause.TheVariants.{Return}
+use Rattle.cl_mean.specs.declared.labels.Mention.{Mention}
+use Rattle.cl_mean.specs.declared.labels.Taints.{Taints}
+use Rattle.cl_mean.specs.Value.{once, Labelled, carries_just, Value, no_value, leaves, each}
+use Rattle.cl_mean.specs.Shape.{Shape, nothing, array, zero_of, taken}
+use Rattle.cl_mean.specs.State.{Place, count_step, begin_call, end_call, pay}
+use Rattle.cl_mean.specs.Source.{Root, open_to_all, admits, Binding, Env, Parameter, Definition, Source, known_at, row_of, payload_size}
+use Rattle.cl_mean.specs.Course.{Ask, Reply, Step, unbounded, meaningless, pure, halted, trapped, asked, within, fetched, stored, made, ◌>>=◌, ◌>>◌}
+use Rattle.cl_mean.specs.Evaluation.{Argument, given, lent, Calls, read_at}
+use Rattle.cl_mean.specs.Execution.{Ending, goes_on, breaks, continues, returns, doing_of, in_turn}
 
--- the definition of a function with a result: its statements, the kind of the result, and the line of its name
-pub record Definition : Type 0 where
-  pub statements : List Stmt
-  pub returns : IntKind
-  pub line : ℕ
+-- ---- a call within a level (C11 6.5.2.2)
 
-unfoldable pub definition : Word → Item → Option Definition
-definition name (Function _ (Integer kind) called _ _ (Some body) line second) =
-    if bytes_eq called name then Some (record { statements = body; returns = kind; line = second }) else None
-definition name _ = None
+-- integer and struct parameters are fresh objects; an array parameter is a name for the caller's object
+abbrev pub parameter : Parameter → Place → List Mention → Binding
+parameter p place labels = record { name = p.name; shape = p.shape; place = place; labels = labels; root = p.root }
 
--- the first definition of a name
-abbrev pub defined : Word → List Item → Option Definition
-defined name [] = None
-defined name (item ∷ items) = found (definition name item) (defined name items)
-  where
-    found : Option Definition → Option Definition → Option Definition
-    found None rest = rest
-    found (Some d) rest = Some d
-
--- the row by which a level calls a function, and its number, counted from the one given
-unfoldable pub row_from : ℕ → List GedlRow → ℕ → Word → Option (ℕ × GedlRow)
-row_from k [] level name = None
-row_from k (row ∷ rows) level name = if (row.from == level) && bytes_eq row.name name then Some (k, row) else row_from (suc k) rows level name
-
--- what the two frames of a call cost the level that makes it: two headers and two payloads
-abbrev pub cost_of : GedlRow → ℕ
-cost_of row = 50 + (row.request + row.reply)
-
--- A level pays for a call, or traps where its budget is spent.
-unfoldable pub paid : Context → ℕ → ℕ → Step (Unit {0})
-paid context cost line state =
-    if nat_le (cost_at state.levels context.level + cost) 8388608
-    then Ok (tt, record state { levels = with_cost state.levels context.level (cost_at state.levels context.level + cost) })
-    else trapped context Frames line state
-
-abbrev pub crossing : ℕ → Bool → Content → Crossing
-crossing k reply content = record { row = k; reply = reply; content = content }
-
-abbrev pub with_crossing : State → Crossing → State
-with_crossing state c = record state { crossings = state.crossings ++ c ∷ [] }
-
--- something crosses
-abbrev pub crosses : Crossing → Step (Unit {0})
-crosses c = λ state. Ok (tt, with_crossing state c)
-
--- a call that a trap breaks off has a broken reply
-abbrev pub broken_off : ℕ → Result (ℤ × State) Halt → Result (ℤ × State) Halt
-broken_off k (Ok r) = Ok r
-broken_off k (Err halt) = Err (record { level = halt.level; trap = halt.trap; state = with_crossing halt.state (crossing k true Broken) })
-
--- the kind of an integer type; structs and arrays come with their stage
-abbrev pub kind_of_level : {A : Type 0} → CType-F A → IntKind
-kind_of_level (ctype.Integer kind) = kind
-kind_of_level _ = I32
-
-unfoldable pub kind_of : CType → IntKind
-kind_of t = kind_of_level (out-CType t)
-
--- what a reply of a row makes of a number: its value in the kind of the result
-abbrev pub replied : GedlRow → ℤ → ℤ
-replied row n = value (kind_of row.result) n
-
--- The guarded call of a row: the caller pays, the request crosses, the callee serves it, the reply crosses.
-abbrev pub guarded : (GedlRow → Step ℤ) → Context → ℕ → ℕ × GedlRow → Step ℤ
-guarded serve context line row =
-    paid context (cost_of row.1) line >>= λ _.
-    crosses (crossing row.0 false (Values [])) >>= λ _.
-    (λ state. broken_off row.0 (serve row.1 state)) >>= λ n.
-    crosses (crossing row.0 true (Values (replied row.1 n ∷ []))) >>= λ _.
-    pure (replied row.1 n)
+-- the names that are known with the parameters; each has its argument
+abbrev pub with_parameters : ℕ → List Parameter → List Argument → Env → Step Env
+with_parameters level [] [] env = pure env
+with_parameters level [] (a ∷ args) env = halted meaningless
+with_parameters level (p ∷ ps) [] env = halted meaningless
+with_parameters level (p ∷ ps) (given v ∷ args) env = made level v >>= λ place. with_parameters level ps args (parameter p place [] ∷ env)
+with_parameters level (p ∷ ps) (lent s ∷ args) env = with_parameters level ps args (parameter p s.place s.labels ∷ env)
 
 -- a function with a result that reaches its end traps at its name
-abbrev pub result_of : Context → ℕ → Flow → Step ℤ
-result_of context line GoesOn = trapped context Return line
-result_of context line (Returns n) = pure n
+abbrev pub at_end : Definition → Shape → Step Value
+at_end d nothing = pure no_value
+at_end d _ = trapped d.level Return d.line
 
--- the body of a function runs at its level
-abbrev pub served : (Context → Stmt → Step Flow) → ℕ → Option Definition → Step ℤ
-served runs level None = unsettled
-served runs level (Some d) = in_turn (map (runs (at d)) d.statements) >>= result_of (at d) d.line
-  where
-    at : Definition → Context
-    at d = record { level = level; returns = d.returns }
+abbrev pub result_of : Definition → Ending → Step Value
+result_of d (returns v) = pure v
+result_of d (goes_on env) = at_end d d.result
+result_of d breaks = halted meaningless
+result_of d continues = halted meaningless
 
-abbrev pub by_row : (ℕ × GedlRow → Step ℤ) → Option (ℕ × GedlRow) → Step ℤ
-by_row call None = unsettled
-by_row call (Some row) = call row
+-- how the body of a function ends: depth is checked, the step is counted, the parameters are bound, and the statements run
+abbrev pub body_run : Source → ℕ → Calls → Definition → List Argument → Step Ending
+body_run source n calls d args =
+    within d.level d.line begin_call >>
+    within d.level d.line count_step >>
+    with_parameters d.level d.params args (known_at source d.level) >>= λ env.
+    in_turn (map (doing_of (record { source = source; calls = calls; here = d }) n) d.body) 0 env
 
--- What a call does, up to a depth of calls. Calls within a level come with their stage.
-unfoldable pub call_at : Checked → ℕ → Context → ℕ → Word → Step ℤ
-call_at checked zero context line name = unsettled
-call_at checked (suc depth) context line name =
-    by_row (guarded (λ row. served (run (record { objects = checked.typed.objects; call = call_at checked depth })) row.to (defined row.name checked.typed.program.items)) context line) (row_from 0 checked.gedl.rows context.level name)
+-- ---- labels behind a call
 
--- the scope of a body at a depth
-abbrev pub scope_at : Checked → ℕ → Scope
-scope_at checked depth = record { objects = checked.typed.objects; call = call_at checked depth }
+-- what lies at a place carries just these labels, and the object's own
+abbrev pub coerced : Place → List Mention → Step (Unit {0})
+coerced place labels = fetched place >>= λ v. stored place (each (carries_just labels) v)
+
+abbrev pub coerced_by : Place → Root → Step (Unit {0})
+coerced_by place (admits taints) = coerced place taints
+coerced_by place _ = pure tt
+
+-- array arguments carry just the taints of the parameter of an annotated function
+abbrev pub arrays_coerced : List Parameter → List Argument → Step (Unit {0})
+arrays_coerced [] [] = pure tt
+arrays_coerced [] (a ∷ args) = halted meaningless
+arrays_coerced (p ∷ ps) [] = halted meaningless
+arrays_coerced (p ∷ ps) (given v ∷ args) = arrays_coerced ps args
+arrays_coerced (p ∷ ps) (lent s ∷ args) = coerced_by s.place p.root >> arrays_coerced ps args
+
+abbrev pub result_labels : Option Taints → Value → Value
+result_labels None v = v
+result_labels (Some t) v = each (carries_just (once t.result)) v
+
+-- an array argument whose root is a parameter of an annotated function carries just that parameter's taints
+abbrev pub roots_coerced : List Argument → Step (Unit {0})
+roots_coerced [] = pure tt
+roots_coerced (given v ∷ args) = roots_coerced args
+roots_coerced (lent s ∷ args) = coerced_by s.place s.root >> roots_coerced args
+
+-- The local call.
+abbrev pub Serving : Type 0
+Serving = Definition → List Argument → Step Value
+
+unfoldable pub local_call : Source → ℕ → Calls → Serving
+local_call source n calls d args =
+    body_run source n calls d args >>= λ flow.
+    result_of d flow >>= λ v.
+    within d.level 0 end_call >>
+    arrays_coerced d.params args >>
+    pure (result_labels d.taints v)
+
+-- ---- a call between levels
+
+-- what a call between levels does, given what the callee's local call does
+abbrev pub Across : Type 0
+Across = Serving → Calls
+
+-- the integers of the arguments; those of arrays are read after all arguments were evaluated
+abbrev pub request_values : List Argument → Step (List Labelled)
+request_values [] = pure []
+request_values (given v ∷ args) = request_values args >>= λ xs. pure (leaves v ++ xs)
+request_values (lent s ∷ args) = read_at s >>= λ v. request_values args >>= λ xs. pure (leaves v ++ xs)
+
+-- arguments that hold these integers; arrays are fresh objects of the callee's level
+abbrev pub fresh : ℕ → Shape → Value → Step Argument
+fresh level (array element size) v = made level v >>= λ place. pure (lent (record { place = place; labels = []; root = open_to_all }))
+fresh level _ v = pure (given v)
+
+abbrev pub all_fresh : ℕ → List Parameter → List Labelled → Step (List Argument)
+all_fresh level [] xs = pure []
+all_fresh level (p ∷ ps) xs = fresh level p.shape (taken p.shape xs).0 >>= λ a. all_fresh level ps (taken p.shape xs).1 >>= λ args. pure (a ∷ args)
+
+abbrev pub array_values : List Argument → Step (List Labelled)
+array_values [] = pure []
+array_values (given v ∷ args) = array_values args
+array_values (lent s ∷ args) = read_at s >>= λ v. array_values args >>= λ xs. pure (leaves v ++ xs)
+
+-- The callee serves a request on fresh objects: the integers of its result and then of its array parameters.
+unfoldable pub served : Serving → Definition → List Labelled → Step (List Labelled)
+served call d xs =
+    all_fresh d.level d.params xs >>= λ args.
+    call d args >>= λ v.
+    array_values args >>= λ ys.
+    pure (leaves v ++ ys)
+
+-- the caller's arrays take the integers of a reply
+abbrev pub arrays_taken : List Parameter → List Argument → List Labelled → Step (Unit {0})
+arrays_taken [] [] xs = pure tt
+arrays_taken [] (a ∷ args) xs = halted meaningless
+arrays_taken (p ∷ ps) [] xs = halted meaningless
+arrays_taken (p ∷ ps) (given v ∷ args) xs = arrays_taken ps args xs
+arrays_taken (p ∷ ps) (lent s ∷ args) xs = stored s.place (taken p.shape xs).0 >> arrays_taken ps args (taken p.shape xs).1
+
+-- the caller goes on with a reply
+unfoldable pub reply_taken : Definition → List Argument → List Labelled → Step Value
+reply_taken d args xs = arrays_taken d.params args (taken d.result xs).1 >> pure (taken d.result xs).0
+
+-- two headers of 25 bytes each, and two payloads
+abbrev pub cost_of : Definition → ℕ
+cost_of d = 50 + (payload_size d false + payload_size d true)
+
+-- a level pays for a call that it makes, or traps where its budget is spent
+abbrev pub paid : ℕ → ℕ → Definition → Step (Unit {0})
+paid level line d = within level line (pay (cost_of d))
+
+-- a call between levels has a row
+abbrev pub by_row : Option ℕ → (ℕ → Step Value) → Step Value
+by_row None next = halted meaningless
+by_row (Some row) next = next row
+
+-- a blocked call gives zero, and the caller's arrays stay
+abbrev pub went_on : Definition → List Argument → Reply → Step Value
+went_on d args None = pure (zero_of d.result)
+went_on d args (Some xs) = reply_taken d args xs
+
+abbrev pub ask_of : ℕ → ℕ → Definition → List Labelled → Ask
+ask_of from row d xs = record { from = from; row = row; callee = d; values = xs }
+
+-- A far call: the caller pays, reads the integers of its request, asks, and goes on with the reply.
+unfoldable pub far : Source → Across
+far source call here line d args = by_row (row_of source here.level d) (λ row.
+    paid here.level line d >>
+    request_values args >>= λ xs.
+    asked (ask_of here.level row d xs) >>= went_on d args)
+
+-- A plain call is C's own: the callee's local call with the caller's arrays lent; the caller pays all the same.
+unfoldable pub unguarded : Source → Across
+unguarded source call here line d args = paid here.level line d >> call d args
+
+-- ---- calls of both kinds
+
+abbrev pub by_level : Serving → Across → Calls
+by_level call across here line d args =
+    (if here.level == d.level then call d args else across call here line d args) >>= λ v.
+    roots_coerced args >> pure v
+
+-- What a call does, where calls nest at most so deep and a loop makes at most so many turns.
+unfoldable pub call_at : Source → Across → ℕ → Calls
+call_at source across zero here line d args = halted unbounded
+call_at source across (suc n) here line d args = by_level (local_call source n (call_at source across n)) across here line d args

@@ -1,59 +1,254 @@
 -- The values of expressions (C11 6.5): operands from left to right, each before its operator.
-use Rattle.std.specs.Prelude.{ℕ, suc, ℤ, pos, List, [], ◌∷◌, Option, Some, None, option_map, slice_index_or, bytes_eq, if◌then◌else◌}
+use Rattle.std.specs.Prelude.{ℕ, Bool, true, false, ◌&&◌, not, ℤ, pos, List, [], ◌∷◌, Option, Some, None, if◌then◌else◌, bytes_eq, codes, int_le, int_lt, unsigned_abs}
+use Rattle.cl_tree.specs.declared.kinds.IntKind.{IntKind}
 use Rattle.cl_tree.specs.declared.kinds.IntKind.TheVariants.{I32}
+use Rattle.cl_tree.specs.declared.kinds.UnOp.{UnOp}
+use Rattle.cl_tree.specs.declared.kinds.UnOp.TheVariants.{Minus, Plus, Flip, Not, Star, Amp}
 use Rattle.cl_tree.specs.declared.kinds.BinOp.{BinOp}
-use Rattle.cl_tree.specs.declared.kinds.BinOp.TheVariants.{Add, Sub, Mul}
+use Rattle.cl_tree.specs.declared.kinds.BinOp.TheVariants.{Or, And, Equal, Unequal, Less, Greater, AtMost, AtLeast}
+use Rattle.cl_tree.specs.declared.kinds.TrapCause.TheVariants.{Index}
 use Rattle.cl_tree.specs.declared.tree.Expr.{Expr, fold-Expr}
 use Rattle.cl_tree.specs.declared.tree.Node.{Node-F}
 use Rattle.cl_tree.specs.declared.tree.Node.TheOpen as node
-use Rattle.cl_tree.specs.Arithmetic.{value, apply}
+use Rattle.cl_tree.specs.Arithmetic.{value, apply, apply_one, letter_value, truth, is_zero, is_shift, promoted, common}
 use Rattle.cl_tree.specs.Words.{Word}
-use Rattle.cl_mean.specs.declared.checked.ObjFact.{ObjFact}
-use Rattle.cl_mean.specs.declared.state.Context.{Context}
-use Rattle.cl_mean.specs.State.{Step, pure, lifted, no_object, ◌>>=◌}
+use Rattle.cl_mean.specs.declared.labels.Mention.{Mention}
+use Rattle.cl_mean.specs.declared.labels.Mention.TheVariants.{Level}
+use Rattle.cl_mean.specs.Value.{Labelled, bare, carries_too, ◌∪◌, Value, number, each, sole, part}
+use Rattle.cl_mean.specs.Shape.{Shape, integer, array, shape_of, kind_in, part_in, size_in, member_in, converted}
+use Rattle.cl_mean.specs.State.{Place, get_byte, deeper}
+use Rattle.cl_mean.specs.Source.{Root, Binding, Env, binding_of, Parameter, Definition, Source, function_named}
+use Rattle.cl_mean.specs.Course.{Step, meaningless, pure, halted, trapped, lifted, within, fetched, ◌>>=◌}
 
--- what names mean: the objects of static duration by their place, and what a call of a function does, at a line
+-- ---- what calls are given, and what they do
+
+-- a place that an expression names: where it lies, the labels of the indexes on the way, and how its root takes labels
+pub record Spot : Type 0 where
+  pub place : Place
+  pub labels : List Mention
+  pub root : Root
+
+-- an argument: a value, or the caller's array
+pub data Argument : Type 0 where
+  given : Value → Argument
+  lent : Spot → Argument
+
+-- what a call does: the function that makes it, the line, the function that is called, the arguments
+abbrev pub Calls : Type 0
+Calls = Definition → ℕ → Definition → List Argument → Step Value
+
+-- where an expression stands: the source, what calls do, and the function
 pub record Scope : Type 0 where
-  pub objects : List ObjFact
-  pub call : Context → ℕ → Word → Step ℤ
+  pub source : Source
+  pub calls : Calls
+  pub here : Definition
 
--- the place of the first object of a name
-abbrev pub place_of : List ObjFact → Word → Option ℕ
-place_of [] name = None
-place_of (o ∷ os) name = if bytes_eq o.name name then Some 0 else option_map (λ n. suc n) (place_of os name)
+-- ---- what an expression means
 
--- what a form has that no accepted source holds yet: nothing is said of it
-abbrev pub unsettled : Step ℤ
-unsettled = pure (pos 0)
+-- its type, from the names alone; its place, where a variable is at its root; its value
+pub record Meaning : Type 0 where
+  pub shape : Shape
+  pub spot : Option (Step Spot)
+  pub value : Step Value
 
--- the number of an object
-abbrev pub fetched : Option ℕ → Step ℤ
-fetched None = unsettled
-fetched (Some place) = λ state. pure (slice_index_or state.objects place no_object).number state
+-- an integer that has no place
+abbrev pub computed : IntKind → Step Labelled → Meaning
+computed kind x = record { shape = integer kind; spot = None; value = x >>= λ n. pure (number n) }
 
--- an operator on two operands, which are `int`; a trap names the operator's line
-abbrev pub operated : Context → BinOp → ℕ → Step ℤ → Step ℤ → Step ℤ
-operated context op line a b = a >>= (λ x. b >>= (λ y. lifted context line (apply op I32 (value I32 x) (value I32 y))))
+-- a read carries the labels of the integers read and of the indexes
+abbrev pub read_at : Spot → Step Value
+read_at s = fetched s.place >>= λ v. pure (each (carries_too s.labels) v)
 
-abbrev pub binary : Context → BinOp → ℕ → Step ℤ → Step ℤ → Step ℤ
-binary context Add line a b = operated context Add line a b
-binary context Sub line a b = operated context Sub line a b
-binary context Mul line a b = operated context Mul line a b
-binary context op line a b = unsettled
+abbrev pub placed : Shape → Step Spot → Meaning
+placed shape spot = record { shape = shape; spot = Some spot; value = spot >>= read_at }
 
--- a call without arguments; others come with their stage
-abbrev pub called : Scope → Context → ℕ → Word → List (Step ℤ) → Step ℤ
-called scope context line name [] = scope.call context line name
-called scope context line name (a ∷ rest) = unsettled
+-- no accepted source wants a place of what has none
+abbrev pub the_spot : Option (Step Spot) → Step Spot
+the_spot (Some s) = s
+the_spot None = halted meaningless
 
--- a node's value waits for the two lines of its expression
-abbrev pub node_value : Scope → Context → Node-F (ℕ → ℕ → Step ℤ) (Step ℤ) → ℕ → ℕ → Step ℤ
-node_value scope context (node.Number n kind) line second = pure (value kind (pos n))
-node_value scope context (node.Variable name) line second = fetched (place_of scope.objects name)
-node_value scope context (node.Paren e) line second = e
-node_value scope context (node.Binary op a b) line second = binary context op second a b
-node_value scope context (node.Call name arguments) line second = called scope context line name arguments
-node_value scope context _ line second = unsettled
+abbrev pub spot_of : Meaning → Step Spot
+spot_of m = the_spot m.spot
 
-unfoldable pub value_of : Scope → Context → Expr → Step ℤ
-value_of scope context = fold-Expr (ℕ → ℕ → Step ℤ) (Step ℤ) (node_value scope context) (λ e. e.node e.line e.second)
+-- ---- integers
+
+abbrev pub kind_of : Meaning → IntKind
+kind_of m = kind_in m.shape
+
+abbrev pub integer_of : Meaning → Step Labelled
+integer_of m = m.value >>= λ v. pure (sole v)
+
+abbrev pub as_kind : IntKind → Labelled → Labelled
+as_kind kind x = record { number = value kind x.number; labels = x.labels }
+
+-- an operand, converted
+abbrev pub operand : IntKind → Meaning → Step Labelled
+operand kind m = integer_of m >>= λ x. pure (as_kind kind x)
+
+abbrev pub is_true : Labelled → Bool
+is_true x = not (is_zero x.number)
+
+-- what an operator makes of two converted operands carries the labels of both
+abbrev pub applied : ℕ → ℕ → BinOp → IntKind → Labelled → Labelled → Step Labelled
+applied level line op kind x y = lifted level line (apply op kind x.number y.number) >>= λ n. pure (record { number = n; labels = x.labels ∪ y.labels })
+
+-- the kind in which an operator works: of a shift it is that of the left operand
+unfoldable pub working_kind : BinOp → IntKind → IntKind → IntKind
+working_kind op a b = if is_shift op then promoted a else common a b
+
+-- the kind to which the right operand is converted
+unfoldable pub right_kind : BinOp → IntKind → IntKind → IntKind
+right_kind op a b = if is_shift op then promoted b else common a b
+
+-- what an operator gives: a comparison gives an `int`
+unfoldable pub given_kind : BinOp → IntKind → IntKind
+given_kind Or kind = I32
+given_kind And kind = I32
+given_kind Equal kind = I32
+given_kind Unequal kind = I32
+given_kind Less kind = I32
+given_kind Greater kind = I32
+given_kind AtMost kind = I32
+given_kind AtLeast kind = I32
+given_kind _ kind = kind
+
+-- `&&` and `||` evaluate the right operand only where the left one doesn't decide
+abbrev pub decided : Bool → Meaning → Labelled → Step Labelled
+decided decides b x =
+    if (if is_true x then decides else not decides) then pure (record { number = truth decides; labels = x.labels })
+    else (integer_of b >>= λ y. pure (record { number = truth (is_true y); labels = x.labels ∪ y.labels }))
+
+abbrev pub logical : Bool → Meaning → Meaning → Step Labelled
+logical decides a b = integer_of a >>= decided decides b
+
+-- the operators that evaluate both operands
+abbrev pub worked : ℕ → BinOp → ℕ → Meaning → Meaning → Meaning
+worked level op line a b =
+    computed (given_kind op (working_kind op (kind_of a) (kind_of b)))
+    (operand (working_kind op (kind_of a) (kind_of b)) a >>= λ x. operand (right_kind op (kind_of a) (kind_of b)) b >>= λ y. applied level line op (working_kind op (kind_of a) (kind_of b)) x y)
+
+abbrev pub binary : ℕ → BinOp → ℕ → Meaning → Meaning → Meaning
+binary level Or line a b = computed I32 (logical true a b)
+binary level And line a b = computed I32 (logical false a b)
+binary level op line a b = worked level op line a b
+
+-- a form that no accepted source has
+abbrev pub senseless : Meaning
+senseless = computed I32 (halted meaningless)
+
+-- what an operator of one operand gives: `!` gives an `int`
+abbrev pub kind_by : UnOp → IntKind → IntKind
+kind_by Not kind = I32
+kind_by _ kind = kind
+
+-- an operator of one operand, which is promoted; its value carries the operand's labels
+abbrev pub worked_one : ℕ → UnOp → ℕ → Meaning → Meaning
+worked_one level op line a =
+    computed (kind_by op (promoted (kind_of a)))
+    (operand (promoted (kind_of a)) a >>= λ x. lifted level line (apply_one op (promoted (kind_of a)) x.number) >>= λ n. pure (record { number = n; labels = x.labels }))
+
+abbrev pub unary : ℕ → UnOp → ℕ → Meaning → Meaning
+unary level Star line a = senseless
+unary level Amp line a = senseless
+unary level op line a = worked_one level op line a
+
+-- `?:` evaluates one of its two last operands, and carries the labels of the condition too
+abbrev pub choice : Meaning → Meaning → Meaning → Meaning
+choice test a b =
+    computed (common (kind_of a) (kind_of b))
+    (integer_of test >>= λ x. operand (common (kind_of a) (kind_of b)) (if is_true x then a else b) >>= λ y. pure (record { number = y.number; labels = x.labels ∪ y.labels }))
+
+-- ---- elements and members
+
+unfoldable pub is_inside : ℕ → ℤ → Bool
+is_inside size n = int_le (pos 0) n && int_lt n (pos size)
+
+-- an index that is none of the array's is a trap
+abbrev pub index_of : ℕ → ℕ → ℕ → Meaning → Step Labelled
+index_of level line size m = integer_of m >>= λ x. if is_inside size x.number then pure x else trapped level Index line
+
+-- a part of a place; `labels` are those of the index
+abbrev pub spot_in : Spot → ℕ → List Mention → Spot
+spot_in s i labels = record { place = deeper s.place i; labels = s.labels ∪ labels; root = s.root }
+
+-- Where the array or the struct has a place, its element or member is a part of that place: it is read behind the index.
+abbrev pub element_of : ℕ → ℕ → Meaning → Meaning → Option (Step Spot) → Meaning
+element_of level line a b (Some spot) =
+    placed (part_in a.shape 0) (spot >>= λ s. index_of level line (size_in a.shape) b >>= λ i. pure (spot_in s (unsigned_abs i.number) i.labels))
+element_of level line a b None = record {
+  shape = part_in a.shape 0;
+  spot = None;
+  value = a.value >>= λ v. index_of level line (size_in a.shape) b >>= λ i. pure (each (carries_too i.labels) (part v (unsigned_abs i.number)));
+}
+
+abbrev pub indexed : ℕ → ℕ → Meaning → Meaning → Meaning
+indexed level line a b = element_of level line a b a.spot
+
+abbrev pub member_of : Meaning → ℕ → Option (Step Spot) → Meaning
+member_of a i (Some spot) = placed (part_in a.shape i) (spot >>= λ s. pure (spot_in s i []))
+member_of a i None = record { shape = part_in a.shape i; spot = None; value = a.value >>= λ v. pure (part v i) }
+
+abbrev pub selected : Meaning → Word → Meaning
+selected a name = member_of a (member_in a.shape name) a.spot
+
+abbrev pub root_spot : Binding → Spot
+root_spot b = record { place = b.place; labels = b.labels; root = b.root }
+
+abbrev pub variable : Binding → Meaning
+variable b = placed b.shape (pure (root_spot b))
+
+-- an accepted source uses known names alone
+abbrev pub variable_of : Option Binding → Meaning
+variable_of None = senseless
+variable_of (Some b) = variable b
+
+-- ---- calls
+
+-- an array is lent, anything else is given in the parameter's type
+abbrev pub argument : Shape → Meaning → Step Argument
+argument (array _ _) m = spot_of m >>= λ s. pure (lent s)
+argument shape m = m.value >>= λ v. pure (given (converted shape v))
+
+-- in an accepted source there are as many as parameters
+abbrev pub arguments : List Parameter → List Meaning → Step (List Argument)
+arguments [] [] = pure []
+arguments [] (m ∷ ms) = halted meaningless
+arguments (p ∷ ps) [] = halted meaningless
+arguments (p ∷ ps) (m ∷ ms) = argument p.shape m >>= λ a. arguments ps ms >>= λ args. pure (a ∷ args)
+
+abbrev pub call_of : Scope → ℕ → List Meaning → Option Definition → Meaning
+call_of scope line ms None = senseless
+call_of scope line ms (Some callee) = record {
+  shape = callee.result;
+  spot = None;
+  value = arguments callee.params ms >>= λ args. scope.calls scope.here line callee args;
+}
+
+-- `getchar` gives the next byte of the level whose function calls it, -1 at the end, with the label of that level
+abbrev pub next_byte : ℕ → Step Labelled
+next_byte level = within level 0 get_byte >>= λ n. pure (record { number = n; labels = Level level ∷ [] })
+
+abbrev pub call_named : Scope → ℕ → Word → List Meaning → Meaning
+call_named scope line name ms =
+    if bytes_eq name (codes "getchar") then computed I32 (next_byte scope.here.level) else call_of scope line ms (function_named scope.source.functions name)
+
+-- ---- expressions
+
+-- A node waits for the two lines of its expression.
+abbrev pub node_meaning : Scope → Env → Node-F (ℕ → ℕ → Meaning) Meaning → ℕ → ℕ → Meaning
+node_meaning scope env (node.Number n kind) line second = computed kind (pure (bare (value kind (pos n))))
+node_meaning scope env (node.Letter byte) line second = computed I32 (pure (bare (letter_value byte)))
+node_meaning scope env (node.Variable name) line second = variable_of (binding_of env name)
+node_meaning scope env (node.Unary op a) line second = unary scope.here.level op line a
+node_meaning scope env (node.Binary op a b) line second = binary scope.here.level op second a b
+node_meaning scope env (node.Choice test a b) line second = choice test a b
+node_meaning scope env (node.Cast ctype a) line second = computed (kind_in (shape_of scope.source.structs ctype)) (operand (kind_in (shape_of scope.source.structs ctype)) a)
+node_meaning scope env (node.Call name all) line second = call_named scope line name all
+node_meaning scope env (node.Index a b) line second = indexed scope.here.level second a b
+node_meaning scope env (node.Member a name) line second = selected a name
+node_meaning scope env (node.Paren a) line second = a
+node_meaning scope env _ line second = senseless
+
+-- what an expression means in a function, where these names are known
+unfoldable pub meaning_of : Scope → Env → Expr → Meaning
+meaning_of scope env = fold-Expr (ℕ → ℕ → Meaning) Meaning (node_meaning scope env) (λ e. e.node e.line e.second)

@@ -1,54 +1,53 @@
--- The bytes of what crossed: frames of a header and a payload, all numbers big endian.
-use Rattle.std.specs.Prelude.{ℕ, zero, suc, ◌+◌, ◌*◌, Bool, true, false, ◌&&◌, ◌==◌, ℤ, List, [], ◌∷◌, ◌++◌, length, if◌then◌else◌}
+-- Frames: what crosses, as bytes. A frame is a header and a payload, all numbers big endian. The journal is the frames of what crossed.
+use Rattle.std.specs.Prelude.{ℕ, zero, suc, ◌+◌, ◌*◌, ◌/◌, ◌%◌, Bool, true, false, ◌&&◌, ◌==◌, ℤ, pos, List, [], ◌∷◌, ◌++◌, map, length, drop, Option, Some, None, if◌then◌else◌, bytes_eq}
 use Rattle.std.specs.List.{flat_map}
-use Rattle.byteorder.specs.Endian.{big_bytes}
+use Rattle.byteorder.specs.Endian.{big_bytes, big_from, big_number}
 use Rattle.cl_tree.specs.declared.kinds.IntKind.{IntKind}
-use Rattle.cl_tree.specs.declared.kinds.IntKind.TheVariants.{I8, U8, I16, U16, I32, U32, Long, ULong, LLong, ULLong}
-use Rattle.cl_tree.specs.declared.tree.CType.{CType, CType-F, out-CType}
-use Rattle.cl_tree.specs.declared.tree.CType.TheOpen as ctype
-use Rattle.cl_tree.specs.Arithmetic.{residue}
+use Rattle.cl_tree.specs.Arithmetic.{value, residue}
 use Rattle.cl_mean.specs.declared.checked.GedlRow.{GedlRow}
-use Rattle.cl_mean.specs.declared.crossing.Content.{Content}
-use Rattle.cl_mean.specs.declared.crossing.Content.TheVariants.{Values, Blocked, Broken}
-use Rattle.cl_mean.specs.declared.crossing.Crossing.{Crossing}
+use Rattle.cl_mean.specs.Value.{Labelled}
+use Rattle.cl_mean.specs.Shape.{size_of, kinds_of}
+use Rattle.cl_mean.specs.Source.{Definition, Source, function_at, payload_of}
+use Rattle.cl_mean.specs.Guarded.{Content, holds, blocked, broken, Crossing}
 
--- how many bytes a number of a kind takes
-abbrev pub bytes_of : IntKind → ℕ
-bytes_of I8 = 1
-bytes_of U8 = 1
-bytes_of I16 = 2
-bytes_of U16 = 2
-bytes_of I32 = 4
-bytes_of U32 = 4
-bytes_of Long = 8
-bytes_of ULong = 8
-bytes_of LLong = 8
-bytes_of ULLong = 8
+-- ---- frames
+
+-- what a frame says: that the whole run is over, or the request or reply of a call by a row
+pub data Said : Type 0 where
+  says_stop : Said
+  message : ℕ → Bool → Content ℤ → Said
+
+pub record Frame : Type 0 where
+  pub turn : ℕ
+  pub said : Said
+
+abbrev pub frame : ℕ → Said → Frame
+frame turn said = record { turn = turn; said = said }
+
+-- ---- payloads
 
 -- the numbers of a payload, each in the width of its kind
 unfoldable pub payload_bytes : List IntKind → List ℤ → List ℕ
 payload_bytes [] numbers = []
 payload_bytes (k ∷ ks) [] = []
-payload_bytes (k ∷ ks) (n ∷ ns) = big_bytes (bytes_of k) (residue k n) ++ payload_bytes ks ns
+payload_bytes (k ∷ ks) (n ∷ ns) = big_bytes (size_of k) (residue k n) ++ payload_bytes ks ns
 
--- the kinds of a type's numbers; structs and arrays come with their stage
-abbrev pub level_kinds : {A : Type 0} → CType-F A → List IntKind
-level_kinds (ctype.Integer kind) = kind ∷ []
-level_kinds _ = []
+-- the numbers that bytes begin with, one of each kind
+unfoldable pub payload_numbers : List IntKind → List ℕ → List ℤ
+payload_numbers [] bytes = []
+payload_numbers (k ∷ ks) bytes = value k (pos (big_number (size_of k) bytes)) ∷ payload_numbers ks (drop (size_of k) bytes)
 
-unfoldable pub kinds_of : CType → List IntKind
-kinds_of t = level_kinds (out-CType t)
+-- the kinds of the numbers of a row's request or reply
+abbrev pub kinds_by : Option Definition → Bool → List IntKind
+kinds_by None reply = []
+kinds_by (Some d) reply = kinds_of (payload_of d reply)
 
--- the kinds of a request's numbers, or of a reply's
-abbrev pub payload_kinds : GedlRow → Bool → List IntKind
-payload_kinds row false = flat_map (λ a. kinds_of a.ctype) row.args
-payload_kinds row true = kinds_of row.result
+unfoldable pub kinds_at : Source → List GedlRow → ℕ → Bool → List IntKind
+kinds_at source [] k reply = []
+kinds_at source (row ∷ rows) zero reply = kinds_by (function_at source.functions row.function) reply
+kinds_at source (row ∷ rows) (suc k) reply = kinds_at source rows k reply
 
--- the kinds of the numbers of a row's request or reply, by the row's number
-unfoldable pub kinds_at : List GedlRow → ℕ → Bool → List IntKind
-kinds_at [] k reply = []
-kinds_at (row ∷ rows) zero reply = payload_kinds row reply
-kinds_at (row ∷ rows) (suc k) reply = kinds_at rows k reply
+-- ---- tags
 
 -- two rows lead from one level to one level
 abbrev pub one_pair : GedlRow → GedlRow → ℕ
@@ -66,30 +65,73 @@ abbrev pub typ_of : ℕ → Bool → ℕ
 typ_of k false = 2 * k + 1
 typ_of k true = 2 * k + 2
 
-abbrev pub kind_number : Content → ℕ
-kind_number (Values numbers) = 0
-kind_number Blocked = 1
-kind_number Broken = 2
+abbrev pub kind_number : {A : Type 0} → Content A → ℕ
+kind_number (holds xs) = 0
+kind_number blocked = 1
+kind_number broken = 2
 
-abbrev pub content_bytes : List IntKind → Content → List ℕ
-content_bytes kinds (Values numbers) = payload_bytes kinds numbers
-content_bytes kinds Blocked = []
-content_bytes kinds Broken = []
+-- ---- bytes
 
--- a frame: mux and sec, which are one number here, typ, turn, kind, the length of the payload, and the payload
+abbrev pub content_bytes : List IntKind → Content ℤ → List ℕ
+content_bytes kinds (holds ns) = payload_bytes kinds ns
+content_bytes kinds blocked = []
+content_bytes kinds broken = []
+
+-- a header and a payload: mux and sec, which are one number here, typ, turn, kind, the length of the payload, and the payload
 unfoldable pub frame_bytes : ℕ → ℕ → ℕ → ℕ → List ℕ → List ℕ
 frame_bytes mux typ turn kind payload =
     big_bytes 4 mux ++ (big_bytes 4 mux ++ (big_bytes 4 typ ++ (big_bytes 8 turn ++ (big_bytes 1 kind ++ (big_bytes 4 (length payload) ++ payload)))))
 
+abbrev pub said_bytes : Source → ℕ → Said → List ℕ
+said_bytes source turn says_stop = frame_bytes 0 0 turn 3 []
+said_bytes source turn (message k reply content) =
+    frame_bytes (mux_of source.rows k) (typ_of k reply) turn (kind_number content) (content_bytes (kinds_at source source.rows k reply) content)
+
+-- The bytes of a frame.
+unfoldable pub bytes_of : Source → Frame → List ℕ
+bytes_of source f = said_bytes source f.turn f.said
+
+-- ---- the reading back
+
+abbrev pub content_in : ℕ → List IntKind → List ℕ → Content ℤ
+content_in zero kinds payload = holds (payload_numbers kinds payload)
+content_in (suc zero) kinds payload = blocked
+content_in (suc (suc n)) kinds payload = broken
+
+abbrev pub message_in : Source → ℕ → Bool → ℕ → List ℕ → Said
+message_in source k reply kind payload = message k reply (content_in kind (kinds_at source source.rows k reply) payload)
+
+abbrev pub said_in : Source → ℕ → ℕ → List ℕ → Said
+said_in source zero kind payload = says_stop
+said_in source (suc n) kind payload = message_in source (n / 2) (n % 2 == 1) kind payload
+
+-- the frame that the numbers of a header and a payload name
+unfoldable pub frame_named : Source → List ℕ → Frame
+frame_named source bytes = frame (big_from 12 8 bytes) (said_in source (big_from 8 4 bytes) (big_from 20 1 bytes) (drop 25 bytes))
+
+-- Bytes are read as the frame that they name, if they are just its bytes; all others are no frame.
+unfoldable pub frame_in : Source → List ℕ → Option Frame
+frame_in source bytes = if bytes_eq (bytes_of source (frame_named source bytes)) bytes then Some (frame_named source bytes) else None
+
+-- ---- the journal
+
+abbrev pub numbers_of : List Labelled → List ℤ
+numbers_of = map (λ x. x.number)
+
+abbrev pub unlabelled : Content Labelled → Content ℤ
+unlabelled (holds xs) = holds (numbers_of xs)
+unlabelled blocked = blocked
+unlabelled broken = broken
+
 -- the frame of a crossing, at its turn
-abbrev pub frame_of : List GedlRow → ℕ → Crossing → List ℕ
-frame_of rows turn c = frame_bytes (mux_of rows c.row) (typ_of c.row c.reply) turn (kind_number c.content) (content_bytes (kinds_at rows c.row c.reply) c.content)
+abbrev pub frame_of : ℕ → Crossing → Frame
+frame_of turn c = frame turn (message c.row c.reply (unlabelled c.content))
 
 -- the frames of crossings, from a turn on
-unfoldable pub journal_from : List GedlRow → ℕ → List Crossing → List ℕ
-journal_from rows turn [] = []
-journal_from rows turn (c ∷ cs) = frame_of rows turn c ++ journal_from rows (suc turn) cs
+unfoldable pub journal_from : Source → ℕ → List Crossing → List ℕ
+journal_from source turn [] = []
+journal_from source turn (c ∷ cs) = bytes_of source (frame_of turn c) ++ journal_from source (suc turn) cs
 
 -- The journal: the i-th frame has turn i, and the first is 1.
-unfoldable pub journal : List GedlRow → List Crossing → List ℕ
-journal rows crossings = journal_from rows 1 crossings
+unfoldable pub journal : Source → List Crossing → List ℕ
+journal source crossings = journal_from source 1 crossings

@@ -1,6 +1,14 @@
+pub mod Value
+pub mod Shape
 pub mod State
+pub mod Source
+pub mod Course
 pub mod Evaluation
+pub mod Printing
 pub mod Execution
+pub mod Judging
 pub mod Calls
-pub mod Journal
+pub mod Guarded
 pub mod Meaning
+pub mod Journal
+pub mod LocalRun

@@ -1,59 +1,150 @@
 -- The meaning of a checked source: what each level writes, what crosses between levels, and how the run ends.
-use Rattle.std.specs.Prelude.{ℕ, List, [], ◌∷◌, map, length, Result, Ok, Err, Option, Some, None, pos, codes}
-use Rattle.cl_tree.specs.declared.kinds.IntKind.TheVariants.{I32}
-use Rattle.cl_tree.specs.declared.tree.Stmt.{Stmt}
-use Rattle.cl_mean.specs.declared.checked.Checked.{Checked}
-use Rattle.cl_mean.specs.declared.checked.ObjFact.{ObjFact}
-use Rattle.cl_mean.specs.declared.crossing.Crossing.{Crossing}
-use Rattle.cl_mean.specs.declared.state.Object.{Object}
-use Rattle.cl_mean.specs.declared.state.State.{State}
-use Rattle.cl_mean.specs.declared.outcome.Flow.{Flow}
-use Rattle.cl_mean.specs.declared.outcome.Flow.TheVariants.{GoesOn, Returns}
+use Rattle.std.specs.Prelude.{ℕ, suc, ◌+◌, ◌*◌, ◌==◌, pos, List, [], ◌∷◌, map, filter, length, slice_index_or, Option, Some, None, Result, Ok, Err}
+use Rattle.cl_mean.specs.declared.law.Law.{Law}
 use Rattle.cl_mean.specs.declared.outcome.End.{End}
 use Rattle.cl_mean.specs.declared.outcome.End.TheVariants.{Exit, Trapped}
-use Rattle.cl_mean.specs.declared.state.Context.{Context}
-use Rattle.cl_mean.specs.State.{Halt, silent}
-use Rattle.cl_mean.specs.Execution.{run, in_turn}
-use Rattle.cl_mean.specs.Calls.{Definition, defined, kind_of, scope_at}
+use Rattle.cl_mean.specs.declared.checked.Checked.{Checked}
+use Rattle.cl_mean.specs.Value.{Labelled, bare, carries_just, each, sole}
+use Rattle.cl_mean.specs.Shape.{nothing, zero_of}
+use Rattle.cl_mean.specs.State.{Object, LevelState, State}
+use Rattle.cl_mean.specs.Source.{Definition, Source, Static, source_of, main_of}
+use Rattle.cl_mean.specs.Course.{Course, comes, stops, asks, Step, Stop, traps, unbounded, meaningless, pure, halted, left_by, ◌>>=◌, ◌>>◌}
+use Rattle.cl_mean.specs.Evaluation.{Calls}
+use Rattle.cl_mean.specs.Execution.{Ending, goes_on, breaks, continues, returns, filled}
+use Rattle.cl_mean.specs.Calls.{Across, far, unguarded, call_at, body_run}
+use Rattle.cl_mean.specs.Guarded.{Crossing, Guarded, Outcome, guarded, serves_at}
 
--- objects of static duration start at zero, each at its level
-unfoldable pub objects_at : List ObjFact → List ℕ → List Object
-objects_at (o ∷ os) (level ∷ levels) = record { level = level; kind = kind_of o.ctype; number = pos 0 } ∷ objects_at os levels
-objects_at _ _ = []
+-- ---- the start
 
--- `main` runs at its level and returns an `int`
-abbrev pub main_context : Checked → Context
-main_context checked = record { level = checked.levels.main; returns = I32 }
+-- the objects of a level, in the order of the source: each zero, with the labels of its own
+abbrev pub started : Static → Object
+started s = record { own = s.own; value = each (carries_just s.own) (zero_of s.binding.shape) }
 
--- the state at the start of a run
-abbrev pub start_of : Checked → State
-start_of checked = record {
-  levels = map (λ _. silent) checked.labels.levels;
-  objects = objects_at checked.typed.objects checked.levels.of_objects;
-  crossings = [];
+abbrev pub objects_at : List Static → ℕ → List Object
+objects_at statics level = map started (filter (λ s. s.binding.place.level == level) statics)
+
+abbrev pub no_input : List ℕ
+no_input = []
+
+-- a level at the start of a run; one without an input has the empty one
+abbrev pub level_at : Source → List (List ℕ) → ℕ → ℕ → LevelState
+level_at source inputs steps level = record {
+  objects = objects_at source.statics level;
+  input = slice_index_or inputs level no_input;
+  output = [];
+  steps_left = steps;
+  active = 0;
+  cost = 0;
 }
 
+abbrev pub levels_from : {A : Type 0} → (ℕ → LevelState) → ℕ → List A → List LevelState
+levels_from at level [] = []
+levels_from at level (name ∷ names) = at level ∷ levels_from at (suc level) names
+
+-- initialisers of objects of static duration call nothing
+abbrev pub no_calls : Calls
+no_calls here line d args = halted meaningless
+
+-- and stand in no function
+abbrev pub no_function : Definition
+no_function = record { index = 0; name = []; line = 0; level = 0; taints = None; entries = []; result = nothing; params = []; body = []; statics = [] }
+
+-- they are executed in the order of the source before the run
+abbrev pub all_filled : Source → List Static → Step (Unit {0})
+all_filled source [] = pure tt
+all_filled source (s ∷ ss) =
+    filled (record { source = source; calls = no_calls; here = no_function }) [] s.init s.binding.shape s.binding.place >> all_filled source ss
+
+unfoldable pub start_of : Checked → List (List ℕ) → ℕ → State
+start_of checked inputs steps =
+    left_by (all_filled (source_of checked) (source_of checked).statics (levels_from (level_at (source_of checked) inputs steps) 0 checked.labels.levels))
+
+-- ---- the bound
+
+-- The steps of all levels, and one more. Each call and each turn of a loop takes a step, so this bound is never met.
+unfoldable pub bound_of : Checked → ℕ → ℕ
+bound_of checked steps = length checked.labels.levels * steps + 1
+
+-- ---- runs
+
+-- `main` comes to one integer: the value that it returns; at its end it returns 0
+abbrev pub exit_value : Ending → Step (List Labelled)
+exit_value (returns v) = pure (sole v ∷ [])
+exit_value (goes_on env) = pure (bare (pos 0) ∷ [])
+exit_value breaks = halted meaningless
+exit_value continues = halted meaningless
+
+abbrev pub main_run : Source → Across → ℕ → Option Definition → Step (List Labelled)
+main_run source across bound None = halted meaningless
+main_run source across bound (Some d) = body_run source bound (call_at source across bound) d [] >>= exit_value
+
+unfoldable pub main_step : Checked → Across → ℕ → Step (List Labelled)
+main_step checked across bound = main_run (source_of checked) across bound (main_of (source_of checked))
+
+-- An end is an exit value or a trap. There is none where a run stops otherwise, which no accepted source does.
+abbrev pub exit_of : List Labelled → Option End
+exit_of [] = None
+exit_of (x ∷ xs) = Some (Exit x.number)
+
+abbrev pub end_by : Stop → Option End
+end_by (traps level t) = Some (Trapped level t)
+end_by unbounded = None
+end_by meaningless = None
+
+abbrev pub output_bytes : LevelState → List ℕ
+output_bytes l = map (λ w. w.byte) l.output
+
+abbrev pub outputs_of : State → List (List ℕ)
+outputs_of state = map output_bytes state
+
+-- ---- the guarded meaning
+
+abbrev pub result_end : Result (List Labelled) Stop → Option End
+result_end (Ok xs) = exit_of xs
+result_end (Err stop) = end_by stop
+
 -- what a run leaves: the outputs of the levels in order, what crossed, and its end
-pub record Outcome : Type 0 where
+pub record Run : Type 0 where
   pub outputs : List (List ℕ)
   pub crossings : List Crossing
-  pub end : End
+  pub end : Option End
 
-abbrev pub left : State → End → Outcome
-left state end = record { outputs = map (λ l. l.output) state.levels; crossings = state.crossings; end = end }
+abbrev pub guarded_start : Law → List Law → Guarded
+guarded_start law houses = record { law = law; houses = houses; crossings = [] }
 
--- `main` that reaches its end returns 0
-abbrev pub outcome_of : Result (Flow × State) Halt → Outcome
-outcome_of (Ok (GoesOn, state)) = left state (Exit (pos 0))
-outcome_of (Ok (Returns n, state)) = left state (Exit n)
-outcome_of (Err halt) = left halt.state (Trapped halt.level halt.trap)
+-- the guarded run of `main`, whose calls of other levels ask
+unfoldable pub guarded_run : Checked → Law → List Law → List (List ℕ) → ℕ → Outcome (List Labelled)
+guarded_run checked law houses inputs steps =
+    guarded (serves_at (source_of checked) (bound_of checked steps) (bound_of checked steps))
+    (main_step checked (far (source_of checked)) (bound_of checked steps) (start_of checked inputs steps))
+    (guarded_start law houses)
 
--- the statements of a definition, if there is one
-abbrev pub statements_of : Option Definition → List Stmt
-statements_of None = []
-statements_of (Some d) = d.statements
+abbrev pub run_of : Outcome (List Labelled) → Run
+run_of r = record { outputs = outputs_of r.levels; crossings = r.guarded.crossings; end = result_end r.result }
 
--- The guarded meaning: `main` runs, and calls nest no deeper than there are functions.
-unfoldable pub mean : Checked → Outcome
-mean checked =
-    outcome_of (in_turn (map (run (scope_at checked (length checked.typed.functions)) (main_context checked)) (statements_of (defined (codes "main") checked.typed.program.items))) (start_of checked))
+-- The guarded meaning.
+unfoldable pub mean : Checked → Law → List Law → List (List ℕ) → ℕ → Run
+mean checked law houses inputs steps = run_of (guarded_run checked law houses inputs steps)
+
+-- ---- the plain meaning
+
+-- a course of plain calls never asks
+abbrev pub course_end : Course (List Labelled) → Option End
+course_end (comes xs state) = exit_of xs
+course_end (stops stop state) = end_by stop
+course_end (asks a state rest) = None
+
+-- the outputs and the end
+pub record PlainRun : Type 0 where
+  pub outputs : List (List ℕ)
+  pub end : Option End
+
+unfoldable pub plain_run : Checked → List (List ℕ) → ℕ → Course (List Labelled)
+plain_run checked inputs steps = main_step checked (unguarded (source_of checked)) (bound_of checked steps) (start_of checked inputs steps)
+
+abbrev pub plain_of : Course (List Labelled) → PlainRun
+plain_of c = record { outputs = outputs_of (left_by c); end = course_end c }
+
+-- The plain meaning: C's own, where a call of another level is a call.
+unfoldable pub plain : Checked → List (List ℕ) → ℕ → PlainRun
+plain checked inputs steps = plain_of (plain_run checked inputs steps)

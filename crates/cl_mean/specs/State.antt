@@ -1,68 +1,109 @@
--- The state of a run, and what a step of meaning does to it.
-use Rattle.std.specs.Prelude.{ℕ, List, [], ◌∷◌, ◌++◌, slice_index_or, slice_set, Result, Ok, Err, ℤ, pos}
-use Rattle.cl_tree.specs.declared.kinds.IntKind.TheVariants.{I32}
+-- The state of a run, and all that is done to it: deeds of one level.
+use Rattle.std.specs.Prelude.{ℕ, ◌+◌, ◌-◌, nat_lt, nat_le, ℤ, pos, negsuc, List, [], ◌∷◌, ◌++◌, length, slice_index_or, slice_set, Result, Ok, Err, if◌then◌else◌}
+use Rattle.cl_base.specs.declared.limits.TheConstants.{OUTPUT_BYTES, ACTIVE_CALLS, FRAME_COST}
 use Rattle.cl_tree.specs.declared.kinds.TrapCause.{TrapCause}
-use Rattle.cl_mean.specs.declared.state.Context.{Context}
-use Rattle.cl_mean.specs.declared.state.LevelState.{LevelState}
-use Rattle.cl_mean.specs.declared.state.Object.{Object}
-use Rattle.cl_mean.specs.declared.state.State.{State}
-use Rattle.cl_mean.specs.declared.outcome.Trap.{Trap}
+use Rattle.cl_tree.specs.declared.kinds.TrapCause.TheVariants.{Steps, Depth, Output, Frames}
+use Rattle.cl_mean.specs.declared.labels.Mention.{Mention}
+use Rattle.cl_mean.specs.Value.{Value, no_value, at_path, with_path, each, carries_too}
 
--- a level at which nothing was done yet
+-- ---- the state
+
+-- an object: the labels of its own, which all that is stored in it carries, and its value
+pub record Object : Type 0 where
+  pub own : List Mention
+  pub value : Value
+
+-- a byte of output, with the labels of the number that it is written for
+pub record Written : Type 0 where
+  pub byte : ℕ
+  pub labels : List Mention
+
+-- one level: its objects under numbers that only grow, the input left, the output, the steps left, the active calls, the frame cost
+pub record LevelState : Type 0 where
+  pub objects : List Object
+  pub input : List ℕ
+  pub output : List Written
+  pub steps_left : ℕ
+  pub active : ℕ
+  pub cost : ℕ
+
+-- The state of a run: that of its levels, by their numbers.
+abbrev pub State : Type 0
+State = List LevelState
+
+-- where a value lies: an object of a level, and the path into it
+pub record Place : Type 0 where
+  pub level : ℕ
+  pub object : ℕ
+  pub path : List ℕ
+
+-- a part of what lies at a place
+abbrev pub deeper : Place → ℕ → Place
+deeper place i = record { level = place.level; object = place.object; path = place.path ++ i ∷ [] }
+
+-- ---- what one level does
+
+-- why a level can't do something: a trap, or an object that isn't there, of which no accepted source speaks
+pub data Fault : Type 0 where
+  trap : TrapCause → Fault
+  no_such_object : Fault
+
+-- All that a step does to levels it does to one of them: a result and the level as it is then, or a fault.
+abbrev pub Deed : Type 0 → Type 0
+Deed A = LevelState → Result (A × LevelState) Fault
+
+-- a level at which nothing was done, and which can do nothing
 abbrev pub silent : LevelState
-silent = record { output = []; cost = 0 }
+silent = record { objects = []; input = []; output = []; steps_left = 0; active = 0; cost = 0 }
 
--- the output of a level
-abbrev pub output_at : List LevelState → ℕ → List ℕ
-output_at levels level = (slice_index_or levels level silent).output
+abbrev pub level_in : State → ℕ → LevelState
+level_in state level = slice_index_or state level silent
 
--- the frame cost of a level so far
-abbrev pub cost_at : List LevelState → ℕ → ℕ
-cost_at levels level = (slice_index_or levels level silent).cost
+abbrev pub with_level : State → ℕ → LevelState → State
+with_level state level l = slice_set state level l
 
--- the levels with one more byte in the output of one of them
-abbrev pub with_byte : List LevelState → ℕ → ℕ → List LevelState
-with_byte levels level byte = slice_set levels level (record { output = output_at levels level ++ byte ∷ []; cost = cost_at levels level })
-
--- the levels with another frame cost at one of them
-abbrev pub with_cost : List LevelState → ℕ → ℕ → List LevelState
-with_cost levels level cost = slice_set levels level (record { output = output_at levels level; cost = cost })
+-- ---- the deeds
 
 abbrev pub no_object : Object
-no_object = record { level = 0; kind = I32; number = pos 0 }
+no_object = record { own = []; value = no_value }
 
--- the objects with another number in one of them
-abbrev pub with_number : List Object → ℕ → ℤ → List Object
-with_number objects place n =
-    slice_set objects place (record { level = (slice_index_or objects place no_object).level; kind = (slice_index_or objects place no_object).kind; number = n })
+abbrev pub object_in : LevelState → ℕ → Object
+object_in l n = slice_index_or l.objects n no_object
 
--- how a run was stopped: the level that trapped, the trap, and the state that it left
-pub record Halt : Type 0 where
-  pub level : ℕ
-  pub trap : Trap
-  pub state : State
+unfoldable pub fetch : ℕ → List ℕ → Deed Value
+fetch n path l = if nat_lt n (length l.objects) then Ok (at_path (object_in l n).value path, l) else Err no_such_object
 
--- a step of meaning takes a state to a result and a state, or to a trap
-abbrev pub Step : Type 0 → Type 0
-Step A = State → Result (A × State) Halt
+-- each integer that is stored carries the object's own labels too
+abbrev pub stored_in : Object → List ℕ → Value → Object
+stored_in o path v = record { own = o.own; value = with_path o.value path (each (carries_too o.own) v) }
 
-abbrev pub goes_to : {A B : Type 0} → (A → Step B) → Result (A × State) Halt → Result (B × State) Halt
-goes_to next (Ok r) = next r.0 r.1
-goes_to next (Err halt) = Err halt
+unfoldable pub store : ℕ → List ℕ → Value → Deed (Unit {0})
+store n path v l =
+    if nat_lt n (length l.objects) then Ok (tt, record l { objects = slice_set l.objects n (stored_in (object_in l n) path v) }) else Err no_such_object
 
--- the first step, and then the one that its result chooses
-infixl 30 ◌>>=◌
-abbrev pub ◌>>=◌ : {A B : Type 0} → Step A → (A → Step B) → Step B
-step >>= next = λ state. goes_to next (step state)
+-- a fresh object and its number
+unfoldable pub make : Object → Deed ℕ
+make o l = Ok (length l.objects, record l { objects = l.objects ++ o ∷ [] })
 
--- a result that leaves the state
-abbrev pub pure : {A : Type 0} → A → Step A
-pure x = λ state. Ok (x, state)
+unfoldable pub put_byte : Written → Deed (Unit {0})
+put_byte w l = if nat_lt (length l.output) OUTPUT_BYTES then Ok (tt, record l { output = l.output ++ w ∷ [] }) else Err (trap Output)
 
-abbrev pub trapped : {A : Type 0} → Context → TrapCause → ℕ → Step A
-trapped context cause line = λ state. Err (record { level = context.level; trap = record { cause = cause; line = line }; state = state })
+-- the next byte of the input; -1 at its end
+abbrev pub next_of : List ℕ → Deed ℤ
+next_of [] l = Ok (negsuc 0, l)
+next_of (b ∷ bs) l = Ok (pos b, record l { input = bs })
 
--- the value of an operator, or its trap at a line
-abbrev pub lifted : Context → ℕ → Result ℤ TrapCause → Step ℤ
-lifted context line (Ok n) = pure n
-lifted context line (Err cause) = trapped context cause line
+unfoldable pub get_byte : Deed ℤ
+get_byte l = next_of l.input l
+
+unfoldable pub count_step : Deed (Unit {0})
+count_step l = if nat_lt 0 l.steps_left then Ok (tt, record l { steps_left = l.steps_left - 1 }) else Err (trap Steps)
+
+unfoldable pub begin_call : Deed (Unit {0})
+begin_call l = if nat_lt l.active ACTIVE_CALLS then Ok (tt, record l { active = l.active + 1 }) else Err (trap Depth)
+
+unfoldable pub end_call : Deed (Unit {0})
+end_call l = Ok (tt, record l { active = l.active - 1 })
+
+unfoldable pub pay : ℕ → Deed (Unit {0})
+pay cost l = if nat_le (l.cost + cost) FRAME_COST then Ok (tt, record l { cost = l.cost + cost }) else Err (trap Frames)

@@ -10,10 +10,11 @@ use Rattle.rpc_codec.specs.declared.frame.TheConstants.{VALUES, BROKEN}
 use Rattle.rpc_codec.specs.Frames.{header_bytes, number_bytes}
 use Rattle.cl_mean.specs.declared.checked.Checked.{Checked}
 use Rattle.cl_mean.specs.declared.checked.GedlRow.{GedlRow}
-use Rattle.cl_mean.specs.declared.crossing.Content.TheVariants.{Values, Broken}
-use Rattle.cl_mean.specs.declared.crossing.Crossing.{Crossing}
-use Rattle.cl_mean.specs.Calls.{crossing, kind_of, with_crossing}
-use Rattle.cl_mean.specs.Journal.{frame_bytes, frame_of, journal, journal_from, kinds_at, kinds_of, mux_of, payload_bytes, typ_of}
+use Rattle.cl_run.specs.declared.crossing.Content.TheVariants.{Values, Broken}
+use Rattle.cl_run.specs.declared.crossing.Crossing.{Crossing}
+use Rattle.cl_run.specs.FormCalls.{crossing, kind_of, with_crossing}
+use Rattle.cl_mean.specs.Journal.{mux_of, typ_of}
+use Rattle.cl_run.specs.FormJournal.{frame_bytes, frame_of, journal, journal_from, kinds_at, kinds_of, payload_bytes}
 use Rattle.hal_route.specs.Hal.{recorded}
 use Rattle.cl_run.specs.declared.running.Running.{Running}
 use Rattle.cl_run.specs.Runs.{IsServed}
@@ -79,7 +80,7 @@ crosses checked c h payload before after stands paid sec long frame state hal =
         journal = rw (hal, state, journal_more checked.gedl.rows before.state.crossings c, bytes, stands.journal, stands.frames) refl;
         frames = rw (hal, state, stands.frames, length-append before.state.crossings (c ∷ [])) refl;
         cost = rw state stands.cost;
-        room = (let same = ap (λ (s : Rattle.cl_mean.specs.declared.state.State.State). s.levels) state in rw (grown, same) paid);
+        room = (let same = ap (λ (s : Rattle.cl_run.specs.declared.state.State.State). s.levels) state in rw (grown, same) paid);
       };
       journal = grown;
     }

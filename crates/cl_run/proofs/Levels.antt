@@ -4,10 +4,10 @@ use Rattle.std.proofs.lemmas.Bool.{ne_eqb}
 use Rattle.cl_tree.specs.Words.{Word}
 use Rattle.cl_mean.specs.declared.checked.Checked.{Checked}
 use Rattle.cl_mean.specs.declared.checked.GedlRow.{GedlRow}
-use Rattle.cl_mean.specs.declared.state.Context.{Context}
-use Rattle.cl_mean.specs.declared.state.State.{State}
-use Rattle.cl_mean.specs.Execution.{run}
-use Rattle.cl_mean.specs.Calls.{by_row, call_at, defined, guarded, row_from, scope_at, served}
+use Rattle.cl_run.specs.declared.state.Context.{Context}
+use Rattle.cl_run.specs.declared.state.State.{State}
+use Rattle.cl_run.specs.FormExecution.{run}
+use Rattle.cl_run.specs.FormCalls.{by_row, call_at, defined, guarded, row_from, scope_at, served}
 use Rattle.cl_run.specs.Runs.{IsServed, IsServedRow}
 
 -- no row begins at another level than that of `main`

@@ -2,9 +2,9 @@
 use Rattle.std.proofs.Common.{◌≡◌, ℕ, zero, suc, List, [], ◌∷◌, length, map, refl, ap, arith}
 use Rattle.cl_tree.specs.Words.{Word}
 use Rattle.cl_mean.specs.declared.checked.Checked.{Checked}
-use Rattle.cl_mean.specs.Journal.{journal, journal_from}
-use Rattle.cl_mean.specs.Meaning.{start_of}
-use Rattle.cl_mean.specs.State.{cost_at, silent}
+use Rattle.cl_run.specs.FormJournal.{journal, journal_from}
+use Rattle.cl_run.specs.FormMeaning.{start_of}
+use Rattle.cl_run.specs.FormState.{cost_at, silent}
 use Rattle.hal_route.specs.Hal.{channels_of}
 use Rattle.cl_run.specs.declared.running.Running.{Running}
 use Rattle.cl_run.specs.Steps.{Stands}

@@ -5,9 +5,9 @@ use Rattle.cl_tree.specs.declared.tree.CType.TheVariants.{Integer}
 use Rattle.cl_mean.specs.declared.checked.Checked.{Checked}
 use Rattle.cl_mean.specs.declared.checked.GedlRow.{GedlRow}
 use Rattle.cl_mean.specs.declared.outcome.End.{End}
-use Rattle.cl_mean.specs.declared.state.State.{State}
-use Rattle.cl_mean.specs.Journal.{journal}
-use Rattle.cl_mean.specs.Meaning.{Outcome}
+use Rattle.cl_run.specs.declared.state.State.{State}
+use Rattle.cl_run.specs.FormJournal.{journal}
+use Rattle.cl_run.specs.FormMeaning.{Outcome}
 use Rattle.hal_route.specs.Hal.{State as HalState}
 
 -- a row by which the level of `main` calls a function of another level, which takes nothing and gives an `int`

@@ -3,11 +3,12 @@ use Rattle.std.specs.Prelude.{◌≡◌, ℕ, ◌+◌, ◌≤◌, Bool, length, 
 use Rattle.cl_base.specs.declared.limits.TheConstants.{FRAME_COST}
 use Rattle.rpc_codec.specs.declared.frame.Header.{Header}
 use Rattle.cl_mean.specs.declared.checked.Checked.{Checked}
-use Rattle.cl_mean.specs.declared.crossing.Crossing.{Crossing}
-use Rattle.cl_mean.specs.declared.state.State.{State}
-use Rattle.cl_mean.specs.State.{Halt, cost_at}
-use Rattle.cl_mean.specs.Calls.{with_crossing}
-use Rattle.cl_mean.specs.Journal.{journal, typ_of}
+use Rattle.cl_run.specs.declared.crossing.Crossing.{Crossing}
+use Rattle.cl_run.specs.declared.state.State.{State}
+use Rattle.cl_run.specs.FormState.{Halt, cost_at}
+use Rattle.cl_run.specs.FormCalls.{with_crossing}
+use Rattle.cl_mean.specs.Journal.{typ_of}
+use Rattle.cl_run.specs.FormJournal.{journal}
 use Rattle.hal_route.specs.Hal.{State as HalState, channels_of}
 use Rattle.cl_run.specs.declared.stop.Stop.{Stop}
 use Rattle.cl_run.specs.declared.stop.Stop.TheVariants.{Trapped, NoMemory}

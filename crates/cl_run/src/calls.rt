@@ -1,7 +1,7 @@
 //! Which function a call names.
 
 ghost use Rattle.std.specs.Prelude.{◌≡◌, ◌<◌, ◌+◌, ◌^◌, ◌==◌, ◌&&◌, bytes_eq, length, MatchOption, None, Some, slice_get};
-ghost use Rattle.cl_mean.specs.Calls.{cost_of, definition, defined, kind_of, row_from};
+ghost use Rattle.cl_run.specs.FormCalls.{cost_of, definition, defined, kind_of, row_from};
 
 use cl_base::name::Name;
 use cl_mean::checked::GedlRow;
@@ -23,7 +23,7 @@ fn is_called(row: &GedlRow, level: u32, name: &Name) -> bool
 }
 
 /// The row by which a level calls a function.
-#[tactic(auto, unfolding(cl_mean::specs::Calls::row_from), using(std::proofs::lemmas::Option::slice_get_read))]
+#[tactic(auto, unfolding(crate::specs::FormCalls::row_from), using(std::proofs::lemmas::Option::slice_get_read))]
 pub fn route_of<'a>(rows: &'a [GedlRow], level: u32, name: &Name) -> Option<Route<'a>>
     requires { length rows.now < 2 ^ 31 }
     ensures row { MatchOption result (row_from 0 rows.now level name.now ≡ None) (λ route. row_from 0 rows.now level name.now ≡ Some (route.number, route.row.now)) }
@@ -46,7 +46,7 @@ pub struct Body<'a> {
     pub line: u32,
 }
 
-#[tactic(auto, unfolding(cl_mean::specs::Calls::definition))]
+#[tactic(auto, unfolding(crate::specs::FormCalls::definition))]
 fn definition<'a>(name: &str, item: &'a Item) -> Option<Body<'a>>
     ensures { MatchOption result (definition name.now item.now ≡ None) (λ b. definition name.now item.now ≡ Some (record { statements = b.statements.now; returns = b.returns; line = b.line })) }
 {
@@ -79,7 +79,7 @@ pub fn defined<'a>(name: &str, items: &'a [Item]) -> Option<Body<'a>>
 }
 
 /// The kind of a result.
-#[tactic(auto, unfolding(cl_mean::specs::Calls::kind_of))]
+#[tactic(auto, unfolding(crate::specs::FormCalls::kind_of))]
 pub fn kind_of(ctype: &CType) -> IntKind
     ensures { result ≡ kind_of ctype.now }
 {

@@ -1,25 +1,26 @@
 //! Running code at a level, by recursion on its tree.
 
 ghost use Rattle.std.specs.Prelude.{◌≡◌, ◌<◌, ℕ, ℤ, length, map, Ok};
-ghost use Rattle.cl_mean.specs.declared.outcome.Flow.TheVariants.{GoesOn};
+ghost use Rattle.cl_run.specs.declared.flow.Flow.TheVariants.{GoesOn};
 ghost use Rattle.cl_tree.specs.declared.kinds.IntKind.TheVariants.{I32, U8};
 ghost use Rattle.cl_tree.specs.declared.tree.Node.{out-Node};
 ghost use Rattle.cl_tree.specs.Arithmetic.{apply, value, residue};
-ghost use Rattle.cl_mean.specs.State.{lifted};
-ghost use Rattle.cl_mean.specs.Evaluation.{place_of, fetched, value_of};
-ghost use Rattle.cl_mean.specs.Execution.{run as ran, in_turn, called, written, stored, assigned};
-ghost use Rattle.cl_mean.specs.Calls.{scope_at};
-ghost use Rattle.cl_mean.specs.declared.state.State.{State as StateValue};
+ghost use Rattle.cl_run.specs.FormState.{lifted};
+ghost use Rattle.cl_run.specs.FormEvaluation.{place_of, fetched, value_of};
+ghost use Rattle.cl_run.specs.FormExecution.{run as ran, in_turn, called, written, stored, assigned};
+ghost use Rattle.cl_run.specs.FormCalls.{scope_at};
+ghost use Rattle.cl_run.specs.declared.state.State.{State as StateValue};
 ghost use Rattle.cl_run.specs.Steps.{IsStep, IsQuiet, Stands, Goes};
 
+use crate::flow::Flow;
 use crate::running::Running;
+use crate::state::{Context, State};
 use crate::stop::Stop;
 use crate::world::World;
 use cl_base::limits::OUTPUT_BYTES;
 use cl_base::name::Name;
 use cl_mean::checked::ObjFact;
-use cl_mean::outcome::{Flow, Trap};
-use cl_mean::state::{Context, State};
+use cl_mean::outcome::Trap;
 use cl_tree::arithmetic::{apply, convert};
 use cl_tree::kinds::{BinOp, IntKind, TrapCause};
 use cl_tree::tree::{Act, Expr, Node, Stmt};
@@ -66,7 +67,7 @@ fn fetch(place: Option<usize>, state: &State) -> i128
 }
 
 /// The value of an expression.
-#[tactic(auto, unfolding(cl_mean::specs::Evaluation::value_of))]
+#[tactic(auto, unfolding(crate::specs::FormEvaluation::value_of))]
 fn value_of<W: World>(world: &W, e: &Expr, run: &mut Running) -> Result<i128, Stop>
     requires fits { W.fits world.now }
     requires stands { Stands (W.checked world.now) run.old }
@@ -102,7 +103,7 @@ fn low_byte(n: i128) -> u8
 }
 
 /// Writes a byte to the output of the level.
-#[tactic(auto, unfolding(cl_mean::specs::Execution::written))]
+#[tactic(auto, unfolding(crate::specs::FormExecution::written))]
 fn write_byte(context: Context, line: u32, byte: u8, state: &mut State) -> Result<Flow, Stop>
     requires { context.level < length state.old.levels }
     ensures step { IsStep result state.new (written context line byte state.old) }
@@ -165,7 +166,7 @@ fn assign<W: World>(world: &W, place: &Expr, n: i128, run: &mut Running)
 }
 
 /// A statement.
-#[tactic(auto, unfolding(cl_mean::specs::Execution::run))]
+#[tactic(auto, unfolding(crate::specs::FormExecution::run))]
 fn run<W: World>(world: &W, s: &Stmt, run: &mut Running) -> Result<Flow, Stop>
     requires fits { W.fits world.now }
     requires level { (W.context world.now).level < length (W.checked world.now).labels.levels }

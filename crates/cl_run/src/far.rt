@@ -3,21 +3,22 @@
 ghost use Rattle.std.specs.Prelude.{◌≡◌, ◌≢◌, ◌<◌, ◌≤◌, ◌-◌, ◌/◌, length, IfSome, slice_get};
 ghost use Rattle.rpc_codec.specs.Frames.{IsHeader};
 ghost use Rattle.rpc_codec.specs.declared.frame.Header.{Header as HeaderValue};
-ghost use Rattle.cl_mean.specs.Calls.{defined, scope_at, served};
-ghost use Rattle.cl_mean.specs.Execution.{run as ran};
+ghost use Rattle.cl_run.specs.FormCalls.{defined, scope_at, served};
+ghost use Rattle.cl_run.specs.FormExecution.{run as ran};
 ghost use Rattle.cl_run.specs.Runs.{IsServed};
 ghost use Rattle.cl_run.specs.Steps.{IsStep, Stands, Goes};
 
 use crate::calls::defined;
 use crate::evaluate::in_turn;
 use crate::exchange::asked_row;
+use crate::flow::Flow;
 use crate::running::Running;
+use crate::state::Context;
 use crate::stop::Stop;
 use crate::world::World;
 use cl_base::name::Name;
 use cl_mean::checked::{Checked, ObjFact};
-use cl_mean::outcome::{Flow, Trap};
-use cl_mean::state::Context;
+use cl_mean::outcome::Trap;
 use cl_tree::kinds::{IntKind, TrapCause};
 
 /// Another level than that of `main`. No row of calls begins there.

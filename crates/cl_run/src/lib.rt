@@ -2,13 +2,14 @@
 #![tactic(auto)]
 
 mod calls;
+pub mod crossing;
 mod evaluate;
 mod exchange;
 mod far;
+pub mod flow;
 mod near;
 pub mod run;
 mod running;
+pub mod state;
 mod stop;
-#[cfg(test)]
-mod tests;
 mod world;

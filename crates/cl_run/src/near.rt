@@ -4,26 +4,26 @@ ghost use Rattle.std.specs.Prelude.{◌≡◌, ◌<◌, ◌≤◌, ◌+◌, ◌-
 ghost use Rattle.cl_tree.specs.Arithmetic.{fits};
 ghost use Rattle.cl_tree.specs.declared.kinds.IntKind.TheVariants.{I32};
 ghost use Rattle.rpc_codec.specs.Frames.{IsHeader};
-ghost use Rattle.cl_mean.specs.declared.crossing.Content.TheVariants.{Values, Broken};
-ghost use Rattle.cl_mean.specs.State.{cost_at};
-ghost use Rattle.cl_mean.specs.Calls.{call_at, cost_of, crossing, defined, guarded, kind_of, paid, replied, scope_at, served};
-ghost use Rattle.cl_mean.specs.Execution.{run as ran};
-ghost use Rattle.cl_mean.specs.Meaning.{main_context};
+ghost use Rattle.cl_run.specs.declared.crossing.Content.TheVariants.{Values, Broken};
+ghost use Rattle.cl_run.specs.FormState.{cost_at};
+ghost use Rattle.cl_run.specs.FormCalls.{call_at, cost_of, crossing, defined, guarded, kind_of, paid, replied, scope_at, served};
+ghost use Rattle.cl_run.specs.FormExecution.{run as ran};
+ghost use Rattle.cl_run.specs.FormMeaning.{main_context};
 ghost use Rattle.cl_run.specs.Runs.{IsServed};
 ghost use Rattle.cl_run.specs.Steps.{IsStep, IsPaid, Stands, Goes, Crosses, header_of};
 
 use crate::calls::{Route, cost_of, kind_of, route_of};
+use crate::crossing::{Content, Crossing};
 use crate::exchange::{asked_row, received, send_broken, send_reply, send_request};
 use crate::far::serve;
 use crate::running::Running;
+use crate::state::{Context, State};
 use crate::stop::Stop;
 use crate::world::World;
 use cl_base::limits::FRAME_COST;
 use cl_base::name::{Name, NoMemory};
 use cl_mean::checked::{Checked, GedlRow, ObjFact};
-use cl_mean::crossing::{Content, Crossing};
 use cl_mean::outcome::Trap;
-use cl_mean::state::{Context, State};
 use cl_tree::arithmetic::convert;
 use cl_tree::kinds::{IntKind, TrapCause};
 use rpc_codec::frame::VALUES;
@@ -31,7 +31,7 @@ use sqlite_items::Items;
 use std::alloc::Global;
 
 /// A level pays for a call, or traps where its budget is spent.
-#[tactic(auto, unfolding(cl_mean::specs::Calls::paid))]
+#[tactic(auto, unfolding(crate::specs::FormCalls::paid))]
 fn pay(context: Context, cost: u32, line: u32, state: &mut State) -> Result<(), Stop>
     requires { context.level < length state.old.levels }
     ensures step { IsStep result state.new (paid context cost line state.old) }

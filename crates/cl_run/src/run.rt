@@ -1,22 +1,23 @@
 //! The run of a checked source.
 
 ghost use Rattle.std.specs.Prelude.{◌≡◌, IfOk, codes, length, map};
-ghost use Rattle.cl_mean.specs.Calls.{defined, scope_at};
-ghost use Rattle.cl_mean.specs.Execution.{in_turn, run as ran};
-ghost use Rattle.cl_mean.specs.Meaning.{main_context, mean, objects_at, start_of, statements_of};
+ghost use Rattle.cl_run.specs.FormCalls.{defined, scope_at};
+ghost use Rattle.cl_run.specs.FormExecution.{in_turn, run as ran};
+ghost use Rattle.cl_run.specs.FormMeaning.{main_context, mean, objects_at, start_of, statements_of};
 ghost use Rattle.cl_run.specs.Runs.{IsServed, IsRun};
 ghost use Rattle.cl_run.specs.Steps.{IsStep, Stands};
 
 use crate::calls::{defined, kind_of};
 use crate::evaluate::in_turn;
 use crate::exchange::send_stop;
+use crate::flow::Flow;
 use crate::near::Near;
 use crate::running::Running;
+use crate::state::{LevelStates, Object, Objects, State};
 use crate::stop::Stop;
 use cl_base::name::NoMemory;
 use cl_mean::checked::{Checked, ObjFact};
-use cl_mean::outcome::{End, Flow};
-use cl_mean::state::{LevelStates, Object, Objects, State};
+use cl_mean::outcome::End;
 use hal_route::hal::Hal;
 use rpc_codec::frame::FrameBuf;
 use sqlite_items::Items;
@@ -31,7 +32,7 @@ pub struct Finished {
 }
 
 /// The objects of static duration at the start: each is zero, at its level.
-#[tactic(auto, unfolding(cl_mean::specs::Meaning::objects_at))]
+#[tactic(auto, unfolding(crate::specs::FormMeaning::objects_at))]
 fn objects_at(alloc: Global, facts: &[ObjFact], levels: &[u32]) -> Result<Objects, NoMemory>
     ensures { IfOk result (λ objects. objects ≡ objects_at facts.now levels.now) }
 {
@@ -82,7 +83,7 @@ fn run_main(alloc: Global, checked: &Checked, running: &mut Running) -> Result<F
 
 /// Runs `main` of a checked source, which can be run so far. `main` that reaches its end returns 0. The only error is
 /// want of memory.
-#[tactic(auto, unfolding(cl_mean::specs::Meaning::mean))]
+#[tactic(auto, unfolding(crate::specs::FormMeaning::mean))]
 pub fn run_checked(alloc: Global, checked: &Checked) -> Result<Finished, NoMemory>
     requires { IsServed checked.now }
     ensures { IfOk result (λ f. IsRun checked.now f.state f.hal f.end (mean checked.now)) }

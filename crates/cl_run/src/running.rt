@@ -1,6 +1,6 @@
 //! What a run holds.
 
-use cl_mean::state::State;
+use crate::state::State;
 use hal_route::hal::Hal;
 use rpc_codec::frame::FrameBuf;
 

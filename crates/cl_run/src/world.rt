@@ -1,16 +1,16 @@
 //! Where code runs, and what a call does there.
 
 ghost use Rattle.std.specs.Prelude.{◌≡◌, ◌<◌, ℕ, length};
-ghost use Rattle.cl_mean.specs.Calls.{call_at};
+ghost use Rattle.cl_run.specs.FormCalls.{call_at};
 ghost use Rattle.cl_mean.specs.declared.checked.Checked.{Checked as CheckedValue};
-ghost use Rattle.cl_mean.specs.declared.state.Context.{Context as ContextValue};
+ghost use Rattle.cl_run.specs.declared.state.Context.{Context as ContextValue};
 ghost use Rattle.cl_run.specs.Steps.{IsStep, Stands, Goes};
 
 use crate::running::Running;
+use crate::state::Context;
 use crate::stop::Stop;
 use cl_base::name::Name;
 use cl_mean::checked::ObjFact;
-use cl_mean::state::Context;
 
 /// Where code runs, and what a call does there.
 pub trait World {

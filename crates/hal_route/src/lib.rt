@@ -5,7 +5,5 @@ pub mod channel;
 pub mod hal;
 pub mod laws;
 mod spelling;
-#[cfg(test)]
-mod tests;
 pub mod uplink;
 pub mod way;

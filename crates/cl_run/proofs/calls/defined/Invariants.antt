@@ -1,5 +1,5 @@
 use Rattle.std.proofs.Common.{◌≡◌, drop}
-use Rattle.cl_mean.specs.Calls.{defined}
+use Rattle.cl_run.specs.FormCalls.{defined}
 use Rattle.cl_run.proofs.calls.defined.Given as goal
 
 abbrev pub invariant-loop-item : goal.invariant-loop-item

@@ -1,5 +1,5 @@
 use Rattle.std.proofs.Common.{◌≡◌, drop}
-use Rattle.cl_mean.specs.Calls.{row_from}
+use Rattle.cl_run.specs.FormCalls.{row_from}
 use Rattle.cl_run.proofs.calls.route_of.Given as goal
 
 abbrev pub invariant-loop-number : goal.invariant-loop-number

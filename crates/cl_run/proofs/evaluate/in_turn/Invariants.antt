@@ -1,6 +1,6 @@
 use Rattle.std.proofs.Common.{◌≡◌, map, drop}
-use Rattle.cl_mean.specs.Execution.{run, in_turn}
-use Rattle.cl_mean.specs.Calls.{scope_at}
+use Rattle.cl_run.specs.FormExecution.{run, in_turn}
+use Rattle.cl_run.specs.FormCalls.{scope_at}
 use Rattle.cl_run.specs.Steps.{Goes}
 use Rattle.cl_run.proofs.evaluate.in_turn.Given as goal
 

@@ -1,5 +1,5 @@
 use Rattle.std.proofs.Common.{◌≡◌, ◌+◌, drop, option_map}
-use Rattle.cl_mean.specs.Evaluation.{place_of}
+use Rattle.cl_run.specs.FormEvaluation.{place_of}
 use Rattle.cl_run.proofs.evaluate.place_of.Given as goal
 
 abbrev pub invariant-loop-place : goal.invariant-loop-place

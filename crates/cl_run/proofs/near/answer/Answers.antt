@@ -1,10 +1,10 @@
 use Rattle.std.proofs.Common.{◌≡◌, ap, List, [], ◌∷◌, ◌++◌, true, rules}
 use Rattle.rpc_codec.specs.Frames.{header_bytes, number_bytes}
 use Rattle.rpc_codec.specs.declared.frame.TheConstants.{VALUES}
-use Rattle.cl_mean.specs.declared.crossing.Content.TheVariants.{Values}
-use Rattle.cl_mean.specs.declared.crossing.Crossing.{Crossing}
-use Rattle.cl_mean.specs.declared.state.State.{State}
-use Rattle.cl_mean.specs.Calls.{crossing, replied}
+use Rattle.cl_run.specs.declared.crossing.Content.TheVariants.{Values}
+use Rattle.cl_run.specs.declared.crossing.Crossing.{Crossing}
+use Rattle.cl_run.specs.declared.state.State.{State}
+use Rattle.cl_run.specs.FormCalls.{crossing, replied}
 use Rattle.hal_route.specs.Hal.{recorded}
 use Rattle.cl_run.specs.Steps.{header_of}
 use Rattle.cl_run.proofs.Journal.{ready, reply_crosses, int_kind}

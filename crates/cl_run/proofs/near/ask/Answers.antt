@@ -1,8 +1,8 @@
 use Rattle.std.proofs.Common.{◌≡◌, ◌∙◌, ℤ, ap, List, [], ◌∷◌, ◌++◌, false}
-use Rattle.cl_mean.specs.declared.crossing.Content.TheVariants.{Values}
-use Rattle.cl_mean.specs.declared.crossing.Crossing.{Crossing}
-use Rattle.cl_mean.specs.declared.state.State.{State}
-use Rattle.cl_mean.specs.Calls.{crossing}
+use Rattle.cl_run.specs.declared.crossing.Content.TheVariants.{Values}
+use Rattle.cl_run.specs.declared.crossing.Crossing.{Crossing}
+use Rattle.cl_run.specs.declared.state.State.{State}
+use Rattle.cl_run.specs.FormCalls.{crossing}
 use Rattle.cl_run.proofs.Journal.{ready, request_crosses}
 use Rattle.cl_run.proofs.near.ask.Goals as goal
 

@@ -1,8 +1,8 @@
 use Rattle.std.proofs.Common.{◌≡◌, ap, List, [], ◌∷◌, ◌++◌, true}
-use Rattle.cl_mean.specs.declared.crossing.Content.TheVariants.{Broken}
-use Rattle.cl_mean.specs.declared.crossing.Crossing.{Crossing}
-use Rattle.cl_mean.specs.declared.state.State.{State}
-use Rattle.cl_mean.specs.Calls.{crossing}
+use Rattle.cl_run.specs.declared.crossing.Content.TheVariants.{Broken}
+use Rattle.cl_run.specs.declared.crossing.Crossing.{Crossing}
+use Rattle.cl_run.specs.declared.state.State.{State}
+use Rattle.cl_run.specs.FormCalls.{crossing}
 use Rattle.cl_run.proofs.Journal.{ready, broken_crosses}
 use Rattle.cl_run.proofs.near.break_off.Goals as goal
 

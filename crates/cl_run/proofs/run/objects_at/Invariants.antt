@@ -1,5 +1,5 @@
 use Rattle.std.proofs.Common.{◌≡◌, ◌++◌, drop}
-use Rattle.cl_mean.specs.Meaning.{objects_at}
+use Rattle.cl_run.specs.FormMeaning.{objects_at}
 use Rattle.cl_run.proofs.run.objects_at.Given as goal
 
 abbrev pub invariant-loop-place : goal.invariant-loop-place

@@ -1,5 +1,5 @@
 use Rattle.std.proofs.Common.{refl}
-use Rattle.cl_mean.specs.Meaning.{main_context}
+use Rattle.cl_run.specs.FormMeaning.{main_context}
 use Rattle.cl_run.proofs.Levels.{near_call}
 use Rattle.cl_run.proofs.near.NearWorld.call.Goals as goal
 

@@ -1,0 +1,41 @@
+-- The guarded run of `main`, from states that differ in labels alone, and under a greater bound.
+use Rattle.std.proofs.Common.{◌≡◌, ℕ, ◌≤◌, ◌<◌, List, [], ◌∷◌, refl, Option, Some, None, inr}
+use Rattle.cl_mean.specs.declared.checked.Checked.{Checked}
+use Rattle.cl_mean.specs.declared.law.Law.{Law}
+use Rattle.cl_mean.specs.State.{State}
+use Rattle.cl_mean.specs.Source.{Definition, Source, source_of, main_of}
+use Rattle.cl_mean.specs.Course.{Stop, unbounded}
+use Rattle.cl_mean.specs.Execution.{Ending, goes_on, breaks, continues, returns}
+use Rattle.cl_mean.specs.Calls.{far}
+use Rattle.cl_mean.specs.Guarded.{serves_at}
+use Rattle.cl_mean.specs.Meaning.{exit_value, main_run, main_step, guarded_start}
+use Rattle.mean_laws.specs.Alike.{Nums, LevelsAll, SideBySide, Between}
+use Rattle.mean_laws.specs.Runs.{IsUnbounded, Never, SameOutcome, run_from}
+use Rattle.mean_laws.proofs.Alike.{ends_then, sole_same, Bounds, bound_same, Endings}
+use Rattle.mean_laws.proofs.AllLevels.{SamePlace}
+use Rattle.mean_laws.proofs.PlainRuns.{levels_refl}
+use Rattle.mean_laws.proofs.GuardedRuns
+
+module _ (Lax : Stop → Type 0) where
+  exit_alike : (a b : Ending) → Endings SamePlace a b → (s t : State) → LevelsAll s t → SideBySide LevelsAll Lax Nums (exit_value a s) (exit_value b t)
+  exit_alike (returns v) (returns w) h s t r = ((sole_same v w h, tt), r)
+  exit_alike (goes_on e) (goes_on e') h s t r = ((refl, tt), r)
+  exit_alike breaks breaks h s t r = inr (refl, r)
+  exit_alike continues continues h s t r = inr (refl, r)
+  exit_alike _ _ h s t r = absurd h
+
+  main_alike : (source : Source) (n n' : ℕ) → Bounds Lax n n' → (o : Option Definition) (s t : State) → LevelsAll s t → SideBySide LevelsAll Lax Nums (main_run source (far source) n o s) (main_run source (far source) n' o t)
+  main_alike source n n' b None s t r = inr (refl, r)
+  main_alike source n n' b (Some d) s t r = ends_then LevelsAll Lax (Endings SamePlace) Nums _ _ exit_value exit_value (GuardedRuns.main_alike Lax source n n' b d s t r) exit_alike
+
+  pub whole : (checked : Checked) (law : Law) (houses : List Law) (n n' : ℕ) → Bounds Lax n n' → (s t : State) → LevelsAll s t → SameOutcome Lax (run_from checked law houses n s) (run_from checked law houses n' t)
+  unfolding main_step
+  whole checked law houses n n' b s t r =
+      GuardedRuns.guarded_alike Lax Nums (serves_at (source_of checked) n n) (serves_at (source_of checked) n' n') (GuardedRuns.serves_alike Lax (source_of checked) n n' b n n' b) _ _
+      (main_alike (source_of checked) n n' b (main_of (source_of checked)) s t r) (guarded_start law houses) (guarded_start law houses) (refl, refl, tt)
+
+pub labels : (checked : Checked) (law : Law) (houses : List Law) (bound : ℕ) (s t : State) → LevelsAll s t → SameOutcome Never (run_from checked law houses bound s) (run_from checked law houses bound t)
+labels checked law houses bound s t r = whole Never checked law houses bound bound (bound_same Never bound) s t r
+
+pub greater : (checked : Checked) (law : Law) (houses : List Law) (least most : ℕ) (state : State) → least ≤ most → SameOutcome IsUnbounded (run_from checked law houses least state) (run_from checked law houses most state)
+greater checked law houses least most state le = whole IsUnbounded checked law houses least most (le, λ l. refl) state state (levels_refl state)

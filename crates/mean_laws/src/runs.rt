@@ -1,0 +1,47 @@
+//! Laws of the guarded meaning and of the plain meaning.
+
+ghost use Rattle.std.specs.Prelude.{◌≡◌, ℕ, ◌≤◌, List};
+ghost use Rattle.cl_mean.specs.declared.checked.Checked.{Checked as CheckedValue};
+ghost use Rattle.cl_mean.specs.declared.law.Law.{Law as LawValue};
+ghost use Rattle.cl_mean.specs.Value.{Labelled};
+ghost use Rattle.cl_mean.specs.State.{State};
+ghost use Rattle.cl_mean.specs.Source.{Definition, Source, source_of};
+ghost use Rattle.cl_mean.specs.Course.{Course, Step, goes_to};
+ghost use Rattle.cl_mean.specs.Calls.{far, unguarded, call_at, local_call, served};
+ghost use Rattle.cl_mean.specs.Guarded.{Guarded, Serves, guarded, serves_at};
+ghost use Rattle.cl_mean.specs.Meaning.{main_step, plain_run};
+ghost use Rattle.mean_laws.specs.Alike.{AtLevel, LevelsAll, Nums, SideBySide};
+ghost use Rattle.mean_laws.specs.Apart.{AsksBelow, LeavesOthers, ServeSame, apart_at};
+ghost use Rattle.mean_laws.specs.Runs.{IsFunctionOf, IsPlaced, IsUnbounded, Never, NeverAsks, SameOutcome, run_from, then_run};
+
+/// Labels don't matter: from states that differ in labels alone, guarded runs have the same numbers, stops, crossings and order.
+pub fn labels_do_not_matter()
+    ensures { (checked : CheckedValue) (law : LawValue) (houses : List LawValue) (bound : ℕ) (s t : State) → LevelsAll s t → SameOutcome Never (run_from checked law houses bound s) (run_from checked law houses bound t) }
+{}
+
+/// A greater bound on turns and calls gives the same, but where the run is stopped by the smaller one.
+pub fn greater_bound_gives_the_same()
+    ensures { (checked : CheckedValue) (law : LawValue) (houses : List LawValue) (least most : ℕ) (state : State) → least ≤ most → SameOutcome IsUnbounded (run_from checked law houses least state) (run_from checked law houses most state) }
+{}
+
+/// A plain run asks no other level, and forgets labels too.
+pub fn plain_runs()
+    ensures labels { (checked : CheckedValue) (bound : ℕ) (s t : State) → LevelsAll s t → SideBySide LevelsAll Never Nums (main_step checked (unguarded (source_of checked)) bound s) (main_step checked (unguarded (source_of checked)) bound t) }
+    ensures asks { (checked : CheckedValue) (inputs : List (List ℕ)) (steps : ℕ) → NeverAsks (plain_run checked inputs steps) }
+{}
+
+/// The guarded run of a course and then a step is that of the course, and then that of the step from where it ended.
+pub fn guarded_in_order<A, B>()
+    ensures { (serves : Serves) (f : A → Step B) (x : Course A) (g : Guarded) → guarded serves (goes_to f x) g ≡ then_run (λ a now h. guarded serves (f a now) h) (guarded serves x g) }
+{}
+
+/// A level's code leaves the other levels as they are, from where it begins or goes on to where it asks or ends.
+pub fn other_levels_stay()
+    ensures { (source : Source) → IsPlaced source → (bound : ℕ) (d : Definition) → IsFunctionOf source d → (xs ys : List Labelled) → Nums xs ys → (s t : State) → AtLevel d.level s t → LeavesOthers d.level Nums s t (served (local_call source bound (call_at source (far source) bound)) d xs s) (served (local_call source bound (call_at source (far source) bound)) d ys t) }
+{}
+
+/// The guarded run over one state and over a state for each level, which goes on from its own, come to the same, where calls between
+/// levels go down in rank.
+pub fn levels_apart()
+    ensures { (source : Source) → IsPlaced source → (bound count : ℕ) (rank : ℕ → ℕ) → ((d : Definition) → IsFunctionOf source d → (xs : List Labelled) (s : State) → AsksBelow count rank (IsFunctionOf source) d.level (served (local_call source bound (call_at source (far source) bound)) d xs s)) → (depth : ℕ) → ServeSame count rank (IsFunctionOf source) (serves_at source bound depth) (apart_at source bound depth) }
+{}
