@@ -6,5 +6,3 @@ pub mod limits;
 pub mod memory;
 pub mod name;
 pub mod outside;
-#[cfg(test)]
-mod tests;

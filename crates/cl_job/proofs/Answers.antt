@@ -1,30 +1,30 @@
 -- How the parts of the top call give the expected answer.
-use Rattle.std.proofs.Common.{◌≡◌, Bool, true, false, [], inr, ◌≤◌, ◌<◌, ℕ, List, Option, None, Some, length, refl, sym, inl, subst, arith, Result, Ok, Err, MatchResult, IfSome, IsSomeAnd, replicate, ◌+◌, ◌++◌, map, option_map, ap, ◌∙◌}
+use Rattle.std.proofs.Common.{◌≡◌, Bool, true, false, [], inr, ◌≤◌, ◌<◌, ℕ, List, Option, None, Some, length, refl, sym, inl, take, subst, arith, Result, Ok, Err, MatchResult, IfSome, IsSomeAnd, replicate, ◌+◌, ◌++◌, map, option_map, ap, ◌∙◌}
 use Rattle.std.proofs.lemmas.List.{length-replicate}
-use Rattle.cl_base.specs.Outside.{Held, file_of, IsLonger}
+use Rattle.cl_base.specs.Outside.{Held, file_of, IsLonger, Rose}
 use Rattle.cl_mean.specs.declared.checked.Checked.{Checked}
-use Rattle.cl_mean.specs.declared.state.LevelState.{LevelState}
-use Rattle.cl_mean.specs.declared.state.State.{State}
+use Rattle.cl_run.specs.declared.state.LevelState.{LevelState}
+use Rattle.cl_run.specs.declared.state.State.{State}
 use Rattle.cl_mean.specs.declared.outcome.End.{End}
 use Rattle.cl_mean.specs.declared.outcome.End.TheVariants.{Exit, Trapped}
-use Rattle.cl_mean.specs.Meaning.{mean}
+use Rattle.cl_run.specs.FormMeaning.{mean}
 use Rattle.hal_route.specs.Hal.{State as Hal}
 use Rattle.cl_run.specs.Runs.{IsRun, IsServed, IsServedRow}
 use Rattle.cl_form.specs.declared.stop.FormStop.{FormStop}
 use Rattle.cl_form.specs.declared.stop.FormStop.TheVariants as stopped
 use Rattle.cl_form.specs.declared.names.Pair.{Pair}
 use Rattle.cl_form.specs.Form.{HasForm, alone_checked, pair_checked, pair_row}
+use Rattle.cl_rules.specs.declared.rule.Refusal.{Refusal}
 use Rattle.cl_tree.specs.declared.tree.Program.{Program}
+use Rattle.cl_words.specs.Words.{RunAsked}
 use Rattle.std.proofs.lemmas.List.Elements.{All-nil, All-cons}
 use Rattle.cl_job.specs.declared.status.Status.{Status}
 use Rattle.cl_job.specs.declared.status.Status.TheVariants as status
-use Rattle.cl_job.specs.declared.texts.Rule.{Rule}
-use Rattle.cl_job.specs.declared.texts.Rule.TheVariants.{SourceTooLong}
-use Rattle.cl_job.specs.Answer.{FilesHold, OnlyAt, journal_of, levels_text, report_text, status_of, Accepted, Refused, IsVerdict, answer_of, Answered, SourceGives, FileGives, CanHold, IsSettled, WasGiven, IsExpected, usage_answer}
-use Rattle.cl_job.specs.Reports.{Puts, Reports, Refuses}
+use Rattle.cl_job.specs.Answer.{FilesHold, OnlyAt, journal_of, levels_text, report_text, status_of, Accepted, Refused, IsTooLong, HasNoReading, IsVerdict, answer_of, Answered, SourceGives, FileGives, CanHold, IsSettled, WasGiven, IsExpected, usage_answer}
+use Rattle.cl_job.specs.Reports.{FilesStand, OutStands, ErrStands, OnlyErr, Put, Puts, Refuses, Reported, Reports}
+use Rattle.cl_job.specs.Seen.{Seen}
 use Rattle.cl_job.specs.Sinks.{Grew}
 use Rattle.cl_job.specs.Texts.{usage_text, last_text}
-use Rattle.cl_job.specs.Words.{RunAsked}
 use Rattle.cl_job.proofs.Growth.{grew_none}
 
 -- the programs of the forms can be run
@@ -56,99 +56,113 @@ whole_text checked state hal end r =
     ∙ ap (λ frames. levels_text checked.labels.levels (mean checked).outputs ++ last_text checked.labels.levels frames end) r.frames
     ∙ ap (λ e. levels_text checked.labels.levels (mean checked).outputs ++ last_text checked.labels.levels (length (mean checked).crossings) e) (sym r.ends)
 
-puts_by : (checked : Checked) (end : End) (s : Status) (before now : Option (List ℕ)) → (mean checked).end ≡ end → s ≡ status_of end → Grew (report_text checked.labels.levels (mean checked)) before now → Puts checked s before now
-puts_by checked (Exit n) status.Done before now ends is grew = (sym (ap status_of ends), grew)
-puts_by checked (Trapped level trap) status.Trapped before now ends is grew = (sym (ap status_of ends), grew)
-puts_by checked (Exit n) status.Trapped before now ends is grew = cc
-puts_by checked (Exit n) status.Refused before now ends is grew = cc
-puts_by checked (Exit n) status.ReadFault before now ends is grew = cc
-puts_by checked (Exit n) status.WriteFault before now ends is grew = tt
-puts_by checked (Exit n) status.NoMemory before now ends is grew = tt
-puts_by checked (Exit n) status.Usage before now ends is grew = cc
-puts_by checked (Trapped level trap) status.Done before now ends is grew = cc
-puts_by checked (Trapped level trap) status.Refused before now ends is grew = cc
-puts_by checked (Trapped level trap) status.ReadFault before now ends is grew = cc
-puts_by checked (Trapped level trap) status.WriteFault before now ends is grew = tt
-puts_by checked (Trapped level trap) status.NoMemory before now ends is grew = tt
-puts_by checked (Trapped level trap) status.Usage before now ends is grew = cc
+puts_by : (checked : Checked) (end : End) (s : Status) (before after : Seen) → (mean checked).end ≡ end → s ≡ status_of end → Grew (report_text checked.labels.levels (mean checked)) before.out after.out → Puts checked s before after
+puts_by checked (Exit n) status.Done before after ends is grew = record { status_is = sym (ap status_of ends); text = grew }
+puts_by checked (Trapped level trap) status.Trapped before after ends is grew = record { status_is = sym (ap status_of ends); text = grew }
+puts_by checked (Exit n) status.Trapped before after ends is grew = cc
+puts_by checked (Exit n) status.Refused before after ends is grew = cc
+puts_by checked (Exit n) status.ReadFault before after ends is grew = cc
+puts_by checked (Exit n) status.WriteFault before after ends is grew = tt
+puts_by checked (Exit n) status.NoMemory before after ends is grew = tt
+puts_by checked (Exit n) status.Usage before after ends is grew = cc
+puts_by checked (Trapped level trap) status.Done before after ends is grew = cc
+puts_by checked (Trapped level trap) status.Refused before after ends is grew = cc
+puts_by checked (Trapped level trap) status.ReadFault before after ends is grew = cc
+puts_by checked (Trapped level trap) status.WriteFault before after ends is grew = tt
+puts_by checked (Trapped level trap) status.NoMemory before after ends is grew = tt
+puts_by checked (Trapped level trap) status.Usage before after ends is grew = cc
 
 -- the report of a run that is over
-pub put_whole : (checked : Checked) (state : State) (hal : Hal) (end : End) (s : Status) (before now : Option (List ℕ)) (names : List (List ℕ)) (levels : List LevelState) (frames : ℕ) → IsRun checked state hal end (mean checked) → s ≡ status_of end → names ≡ checked.labels.levels → levels ≡ state.levels → frames ≡ hal.frames → Grew (levels_text names (map (λ l. l.output) levels) ++ last_text names frames end) before now → Puts checked s before now
-put_whole checked state hal end s before now names levels frames r is names_are levels_are frames_are grew =
-    puts_by checked end s before now r.ends is (subst (λ (text : List ℕ). Grew text before now) (text_is ∙ whole_text checked state hal end r) grew)
+pub put_whole : (checked : Checked) (state : State) (hal : Hal) (end : End) (s : Status) (before after : Seen) (names : List (List ℕ)) → IsRun checked state hal end (mean checked) → s ≡ status_of end → names ≡ checked.labels.levels → Grew (levels_text names (map (λ l. l.output) state.levels) ++ last_text names hal.frames end) before.out after.out → Puts checked s before after
+put_whole checked state hal end s before after names r is names_are grew =
+    puts_by checked end s before after r.ends is (subst (λ (text : List ℕ). Grew text before.out after.out) (text_is ∙ whole_text checked state hal end r) grew)
   where
-    text_is : levels_text names (map (λ l. l.output) levels) ++ last_text names frames end ≡ levels_text checked.labels.levels (map (λ l. l.output) state.levels) ++ last_text checked.labels.levels hal.frames end
-    text_is =
-        ap (λ ns. levels_text ns (map (λ l. l.output) levels) ++ last_text ns frames end) names_are
-        ∙ ap (λ ls. levels_text checked.labels.levels (map (λ l. l.output) ls) ++ last_text checked.labels.levels frames end) levels_are
-        ∙ ap (λ f. levels_text checked.labels.levels (map (λ l. l.output) state.levels) ++ last_text checked.labels.levels f end) frames_are
+    text_is : levels_text names (map (λ l. l.output) state.levels) ++ last_text names hal.frames end ≡ levels_text checked.labels.levels (map (λ l. l.output) state.levels) ++ last_text checked.labels.levels hal.frames end
+    text_is = ap (λ ns. levels_text ns (map (λ l. l.output) state.levels) ++ last_text ns hal.frames end) names_are
 
 -- a report, with the journal before it
-pub reports : (checked : Checked) (journal : Option (List ℕ)) (s : Status) (files files' : Option Held) (before now : Option (List ℕ)) → FilesHold (option_map (λ path. (path, journal_of checked)) journal) files files' → Puts checked s before now → Reports checked journal s files files' before now
-reports checked journal status.Done files files' before now kept puts = record { status_is = puts.0; file = kept; text = puts.1 }
-reports checked journal status.Trapped files files' before now kept puts = record { status_is = puts.0; file = kept; text = puts.1 }
-reports checked journal status.Refused files files' before now kept puts = puts
-reports checked journal status.ReadFault files files' before now kept puts = puts
-reports checked journal status.WriteFault files files' before now kept puts = tt
-reports checked journal status.NoMemory files files' before now kept puts = tt
-reports checked journal status.Usage files files' before now kept puts = puts
+reported_by : (checked : Checked) (journal : Option (List ℕ)) (s : Status) (before between after : Seen) → FilesHold (option_map (λ path. (path, journal_of checked)) journal) before.files between.files → OutStands before between → FilesStand between after → Put checked s between after → Reported checked journal s before after
+reported_by checked journal s before between after kept out files put = record {
+  status_is = put.status_is;
+  file = subst (λ (now : Option Held). FilesHold (option_map (λ path. (path, journal_of checked)) journal) before.files now) (sym files.files) kept;
+  text = subst (λ (told : Option (List ℕ)). Grew (report_text checked.labels.levels (mean checked)) told after.out) out.out put.text;
+}
+
+pub reports : (checked : Checked) (journal : Option (List ℕ)) (s : Status) (before between after : Seen) → FilesHold (option_map (λ path. (path, journal_of checked)) journal) before.files between.files → OutStands before between → FilesStand between after → Puts checked s between after → Reports checked journal s before after
+reports checked journal status.Done before between after kept out files puts = reported_by checked journal _ before between after kept out files puts
+reports checked journal status.Trapped before between after kept out files puts = reported_by checked journal _ before between after kept out files puts
+reports checked journal status.Refused before between after kept out files puts = puts
+reports checked journal status.ReadFault before between after kept out files puts = puts
+reports checked journal status.WriteFault before between after kept out files puts = tt
+reports checked journal status.NoMemory before between after kept out files puts = tt
+reports checked journal status.Usage before between after kept out files puts = puts
+
+-- standard error that stands was given nothing
+nothing_given : (before after : Seen) → ErrStands before after → WasGiven [] before after
+nothing_given before after stands = inl (subst (λ (now : Option (List ℕ)). Grew [] before.err now) (sym stands.err) (grew_none before.err))
 
 -- a report of a checked source is its answer
-pub reported : (journal : Option (List ℕ)) (source : List ℕ) (checked : Checked) (s : Status) (files files' : Option Held) (out out' : Option (List ℕ)) (count : ℕ) (err : Option (List ℕ)) → length source ≤ 1048576 → HasForm source checked → Reports checked journal s files files' out out' → IsSettled s → Answered (SourceGives journal source) s files files' out out' count count err err
-reported journal source checked status.Done files files' out out' count err short form r settled = record {
+report_answers : (journal : Option (List ℕ)) (source : List ℕ) (checked : Checked) (s : Status) (before after : Seen) → length source ≤ 1048576 → HasForm source checked → Reported checked journal s before after → ErrStands before after → Answered (SourceGives journal source) s before after
+report_answers journal source checked s before after short form r quiet = record {
   answer = answer_of journal (Accepted checked);
   expected = record { verdict = Accepted checked; judged = (short, form); is = refl };
   status_is = r.status_is;
   file = r.file;
   text = r.text;
-  fault_text = inl (grew_none err);
+  fault_text = nothing_given before after quiet;
 }
-reported journal source checked status.Trapped files files' out out' count err short form r settled = record {
-  answer = answer_of journal (Accepted checked);
-  expected = record { verdict = Accepted checked; judged = (short, form); is = refl };
-  status_is = r.status_is;
-  file = r.file;
-  text = r.text;
-  fault_text = inl (grew_none err);
-}
-reported journal source checked status.Refused files files' out out' count err short form r settled = absurd r
-reported journal source checked status.ReadFault files files' out out' count err short form r settled = absurd settled
-reported journal source checked status.WriteFault files files' out out' count err short form r settled = absurd settled
-reported journal source checked status.NoMemory files files' out out' count err short form r settled = absurd settled
-reported journal source checked status.Usage files files' out out' count err short form r settled = absurd r
+
+pub reported : (journal : Option (List ℕ)) (source : List ℕ) (checked : Checked) (s : Status) (before after : Seen) → length source ≤ 1048576 → HasForm source checked → Reports checked journal s before after → (IsSettled s → ErrStands before after) → IsSettled s → Answered (SourceGives journal source) s before after
+reported journal source checked status.Done before after short form r quiet settled = report_answers journal source checked _ before after short form r (quiet settled)
+reported journal source checked status.Trapped before after short form r quiet settled = report_answers journal source checked _ before after short form r (quiet settled)
+reported journal source checked status.Refused before after short form r quiet settled = absurd r
+reported journal source checked status.ReadFault before after short form r quiet settled = absurd settled
+reported journal source checked status.WriteFault before after short form r quiet settled = absurd settled
+reported journal source checked status.NoMemory before after short form r quiet settled = absurd settled
+reported journal source checked status.Usage before after short form r quiet settled = absurd r
 
 -- a refusal is the answer of a verdict that refuses
-pub refused : (journal : Option (List ℕ)) (source : List ℕ) (rule : Rule) (s : Status) (files : Option Held) (out : Option (List ℕ)) (count count' : ℕ) (err err' : Option (List ℕ)) → IsVerdict source (Refused rule 1) → Refuses rule s count count' err err' → IsSettled s → Answered (SourceGives journal source) s files files out out count count' err err'
-refused journal source rule status.Refused files out count count' err err' judged r settled = record {
-  answer = answer_of journal (Refused rule 1);
-  expected = record { verdict = Refused rule 1; judged = judged; is = refl };
+pub refused : (journal : Option (List ℕ)) (source : List ℕ) (refusal : Refusal) (s : Status) (before after : Seen) → IsVerdict source (Refused refusal) → Refuses refusal s before after → OnlyErr before after → IsSettled s → Answered (SourceGives journal source) s before after
+refused journal source refusal status.Refused before after judged r rest settled = record {
+  answer = answer_of journal (Refused refusal);
+  expected = record { verdict = Refused refusal; judged = judged; is = refl };
   status_is = refl;
-  file = refl;
-  text = grew_none out;
+  file = rest.files.files;
+  text = subst (λ (now : Option (List ℕ)). Grew [] before.out now) (sym rest.out.out) (grew_none before.out);
   fault_text = r;
 }
-refused journal source rule status.Done files out count count' err err' judged r settled = absurd r
-refused journal source rule status.Trapped files out count count' err err' judged r settled = absurd r
-refused journal source rule status.ReadFault files out count count' err err' judged r settled = absurd r
-refused journal source rule status.WriteFault files out count count' err err' judged r settled = absurd r
-refused journal source rule status.NoMemory files out count count' err err' judged r settled = absurd settled
-refused journal source rule status.Usage files out count count' err err' judged r settled = absurd r
+refused journal source refusal status.Done before after judged r rest settled = absurd r
+refused journal source refusal status.Trapped before after judged r rest settled = absurd r
+refused journal source refusal status.ReadFault before after judged r rest settled = absurd r
+refused journal source refusal status.WriteFault before after judged r rest settled = absurd r
+refused journal source refusal status.NoMemory before after judged r rest settled = absurd settled
+refused journal source refusal status.Usage before after judged r rest settled = absurd r
 
 -- a reader that answers no reading leaves none
 pub no_reading : (r : Result Checked FormStop) (stop : FormStop) (checked : Checked) → r ≡ Err stop → stop ≡ stopped.NoReading → MatchResult r (λ x. x ≡ checked) (λ e. e ≡ stopped.NoMemory) → ⊥
 no_reading (Ok x) stop checked is stop_is m = cc
 no_reading (Err e) stop checked is stop_is m = let h : e ≡ stopped.NoMemory = m in cc
 
+-- a read changes nothing but the count of failed reads
+pub record AfterRead (before after : Seen) : Type 0 where
+  pub files : after.files ≡ before.files
+  pub out : OutStands before after
+  pub err : ErrStands before after
+
 -- the answer that the bytes of a file get is the one that the file gets
-pub file_answered : (told : Option Held) (run : RunAsked) (source : List ℕ) (s : Status) (files files' : Option Held) (out out' : Option (List ℕ)) (count count' : ℕ) (err err' : Option (List ℕ)) → CanHold told run.source source → Answered (SourceGives run.journal source) s files files' out out' count count' err err' → Answered (FileGives told run) s files files' out out' count count' err err'
-file_answered told run source s files files' out out' count count' err err' held a = record {
+pub file_answered : (run : RunAsked) (source : List ℕ) (s : Status) (before between after : Seen) → AfterRead before between → CanHold before.files run.source source → Answered (SourceGives run.journal source) s between after → Answered (FileGives before.files run) s before after
+file_answered run source s before between after read held a = record {
   answer = a.answer;
   expected = record { source = source; held = held; gives = a.expected };
   status_is = a.status_is;
-  file = a.file;
-  text = a.text;
-  fault_text = a.fault_text;
+  file = subst (λ (told : Option Held). FilesHold a.answer.file told after.files) read.files a.file;
+  text = subst (λ (told : Option (List ℕ)). Grew a.answer.text told after.out) read.out.out a.text;
+  fault_text = given_before a.answer.fault_text before between after read.err a.fault_text;
 }
+  where
+    given_before : (text : List ℕ) (before between after : Seen) → ErrStands before between → WasGiven text between after → WasGiven text before after
+    given_before text before between after stands (inl grew) = inl (subst (λ (told : Option (List ℕ)). Grew text told after.err) stands.err grew)
+    given_before text before between after stands (inr part) = inr (subst (λ (count : ℕ). Rose count after.err_count) stands.puts part.0, (part.1.0, subst (λ (told : Option (List ℕ)). Grew (take part.1.0 text) told after.err) stands.err part.1.1))
 
 -- some bytes are longer than any limit
 some_longer : (limit : ℕ) → (source : List ℕ) × (limit < length source)
@@ -165,20 +179,30 @@ longer_held None path h = let long = some_longer 1048576 in (long.0, tt, long.1)
 longer_held (Some files) path h = elim_longer (file_of files path) h
 
 -- a file that is too long is refused for that
-pub longer_refused : (told : Option Held) (run : RunAsked) (s : Status) (files : Option Held) (out : Option (List ℕ)) (count count' : ℕ) (err err' : Option (List ℕ)) → IfSome told (IsLonger 1048576 run.source) → Refuses SourceTooLong s count count' err err' → IsSettled s → Answered (FileGives told run) s files files out out count count' err err'
-longer_refused told run s files out count count' err err' longer r settled =
-    let h = longer_held told run.source longer in file_answered told run h.0 s files files out out count count' err err' h.1 (refused run.journal h.0 SourceTooLong s files out count count' err err' (h.2, refl) r settled)
+pub longer_refused : (run : RunAsked) (refusal : Refusal) (s : Status) (before between after : Seen) → AfterRead before between → refusal ≡ record { rule = 1; line = 1 } → IfSome before.files (IsLonger 1048576 run.source) → Refuses refusal s between after → OnlyErr between after → IsSettled s → Answered (FileGives before.files run) s before after
+longer_refused run refusal s before between after read is longer r rest settled =
+    let h = longer_held before.files run.source longer in
+    file_answered run h.0 s before between after read h.1 (refused run.journal h.0 refusal s between after (inl (record { long = h.2; is = is })) r rest settled)
 
 -- words without a reading are answered by the usage text
-pub usage_answered : (told : Option Held) (asked : Option RunAsked) (s : Status) (files : Option Held) (out : Option (List ℕ)) (count count' : ℕ) (err err' : Option (List ℕ)) → asked ≡ None → s ≡ status.Usage → WasGiven usage_text count count' err err' → Answered (IsExpected told asked) s files files out out count count' err err'
-usage_answered told None s files out count count' err err' none is given =
-    record { answer = usage_answer; expected = refl; status_is = is; file = refl; text = grew_none out; fault_text = given }
-usage_answered told (Some run) s files out count count' err err' none is given = cc
+pub usage_answered : (told : Option Held) (asked : Option RunAsked) (s : Status) (before after : Seen) → asked ≡ None → s ≡ status.Usage → WasGiven usage_text before after → OnlyErr before after → Answered (IsExpected told asked) s before after
+usage_answered told None s before after none is given rest = record {
+  answer = usage_answer;
+  expected = refl;
+  status_is = is;
+  file = rest.files.files;
+  text = subst (λ (now : Option (List ℕ)). Grew [] before.out now) (sym rest.out.out) (grew_none before.out);
+  fault_text = given;
+}
+usage_answered told (Some run) s before after none is given rest = cc
 
 -- nothing was written anywhere
-pub none_written : (path : Option (List ℕ)) (files : Option Held) → OnlyAt path files files
-none_written None files = refl
-none_written (Some path) None = refl
-none_written (Some path) (Some before) = λ other apart. refl
+pub none_written : (path : Option (List ℕ)) (files files' : Option Held) → files' ≡ files → OnlyAt path files files'
+none_written path files files' is = subst (λ (now : Option Held). OnlyAt path files now) (sym is) (same path files)
+  where
+    same : (path : Option (List ℕ)) (files : Option Held) → OnlyAt path files files
+    same None files = refl
+    same (Some path) None = refl
+    same (Some path) (Some before) = λ other apart. refl
 
 pub ruleset answers = (served, reported, refused, file_answered, longer_refused, usage_answered, none_written)

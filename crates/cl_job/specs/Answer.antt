@@ -4,16 +4,16 @@ use Rattle.cl_base.specs.Outside.{Held, file_of, Rose, IsWritten, OthersStand}
 use Rattle.cl_mean.specs.declared.checked.Checked.{Checked}
 use Rattle.cl_mean.specs.declared.outcome.End.{End}
 use Rattle.cl_mean.specs.declared.outcome.End.TheVariants.{Exit, Trapped}
-use Rattle.cl_mean.specs.Journal.{journal}
-use Rattle.cl_mean.specs.Meaning.{Outcome, mean}
+use Rattle.cl_run.specs.FormJournal.{journal}
+use Rattle.cl_run.specs.FormMeaning.{Outcome, mean}
 use Rattle.cl_form.specs.Form.{HasForm}
+use Rattle.cl_rules.specs.declared.rule.Refusal.{Refusal}
+use Rattle.cl_words.specs.Words.{RunAsked}
 use Rattle.cl_job.specs.declared.status.Status.{Status}
 use Rattle.cl_job.specs.declared.status.Status.TheVariants as status
-use Rattle.cl_job.specs.declared.texts.Rule.{Rule}
-use Rattle.cl_job.specs.declared.texts.Rule.TheVariants.{SourceTooLong, NoReading}
+use Rattle.cl_job.specs.Seen.{Seen}
 use Rattle.cl_job.specs.Sinks.{Grew}
 use Rattle.cl_job.specs.Texts.{usage_text, refusal_text, level_head, last_text}
-use Rattle.cl_job.specs.Words.{RunAsked}
 
 -- the text of one level: its name, how many bytes it wrote, and these bytes
 unfoldable pub level_text : List ℕ → List ℕ → List ℕ
@@ -31,13 +31,22 @@ report_text names outcome = levels_text names outcome.outputs ++ last_text names
 -- what a source is found to be: a checked program, or what fails first, and at which line
 pub data Verdict : Type 0 where
   Accepted : Checked → Verdict
-  Refused : Rule → ℕ → Verdict
+  Refused : Refusal → Verdict
 
--- the first rule is on the length of the source, the second on its reading
+-- the first rule is on the length of the source
+pub record IsTooLong (source : List ℕ) (refusal : Refusal) : Type 0 where
+  pub long : 1048576 < length source
+  pub is : refusal ≡ record { rule = 1; line = 1 }
+
+-- the next one is on its reading
+pub record HasNoReading (source : List ℕ) (refusal : Refusal) : Type 0 where
+  pub short : length source ≤ 1048576
+  pub none : (checked : Checked) → HasForm source checked → ⊥
+  pub is : refusal ≡ record { rule = 6; line = 1 }
+
 abbrev pub IsVerdict : List ℕ → Verdict → Type 0
 IsVerdict source (Accepted checked) = (length source ≤ 1048576) × HasForm source checked
-IsVerdict source (Refused SourceTooLong line) = (1048576 < length source) × (line ≡ 1)
-IsVerdict source (Refused NoReading line) = (length source ≤ 1048576) × (line ≡ 1) × ((checked : Checked) → HasForm source checked → ⊥)
+IsVerdict source (Refused refusal) = IsTooLong source refusal ⊎ HasNoReading source refusal
 
 -- a file, by its path and its bytes
 abbrev pub File : Type 0
@@ -69,7 +78,7 @@ answer_of path (Accepted checked) = record {
   fault_text = [];
   file = option_map (λ p. (p, journal_of checked)) path;
 }
-answer_of path (Refused rule line) = record { status = status.Refused; text = []; fault_text = refusal_text rule line; file = None }
+answer_of path (Refused refusal) = record { status = status.Refused; text = []; fault_text = refusal_text refusal; file = None }
 
 -- the answer that a source gets, with the path of the journal
 pub record SourceGives (journal : Option (List ℕ)) (source : List ℕ) (answer : Answer) : Type 0 where
@@ -102,9 +111,11 @@ IsSettled status.ReadFault = ⊥
 IsSettled status.WriteFault = ⊥
 IsSettled status.NoMemory = ⊥
 
--- a sink was given a text: it has it, or its count rose and it has a front part of it
-abbrev pub WasGiven : List ℕ → ℕ → ℕ → Option (List ℕ) → Option (List ℕ) → Type 0
-WasGiven text count count' before now = Grew text before now ⊎ (Rose count count' × ((kept : ℕ) × Grew (take kept text) before now))
+-- standard error was given a text: it has it, or its count rose and it has a front part of it
+abbrev pub WasGiven : List ℕ → Seen → Seen → Type 0
+WasGiven text before after =
+    Grew text before.err after.err
+    ⊎ (Rose before.err_count after.err_count × ((kept : ℕ) × Grew (take kept text) before.err after.err))
 
 -- the files after a file was written, or after none was: every other file stands
 abbrev pub FilesHold : Option File → Option Held → Option Held → Type 0
@@ -127,10 +138,10 @@ journal_path (Some run) = run.journal
 
 -- an expected answer was given: the status is its own, the files hold its file, standard output has its text more,
 -- and standard error was given its fault text
-pub record Answered (Expected : Answer → Type 0) (status : Status) (files files' : Option Held) (out out' : Option (List ℕ)) (count count' : ℕ) (err err' : Option (List ℕ)) : Type 0 where
+pub record Answered (Expected : Answer → Type 0) (status : Status) (before after : Seen) : Type 0 where
   pub answer : Answer
   pub expected : Expected answer
   pub status_is : status ≡ answer.status
-  pub file : FilesHold answer.file files files'
-  pub text : Grew answer.text out out'
-  pub fault_text : WasGiven answer.fault_text count count' err err'
+  pub file : FilesHold answer.file before.files after.files
+  pub text : Grew answer.text before.out after.out
+  pub fault_text : WasGiven answer.fault_text before after

@@ -1,5 +1,5 @@
 pub mod Answer
 pub mod Reports
+pub mod Seen
 pub mod Sinks
 pub mod Texts
-pub mod Words

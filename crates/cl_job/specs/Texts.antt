@@ -7,8 +7,8 @@ use Rattle.cl_mean.specs.declared.outcome.End.{End}
 use Rattle.cl_mean.specs.declared.outcome.End.TheVariants.{Exit, Trapped}
 use Rattle.cl_job.specs.declared.status.Status.{Status}
 use Rattle.cl_job.specs.declared.status.Status.TheVariants as status
-use Rattle.cl_job.specs.declared.texts.Rule.{Rule}
-use Rattle.cl_job.specs.declared.texts.Rule.TheVariants.{SourceTooLong, NoReading}
+use Rattle.cl_rules.specs.declared.rule.Refusal.{Refusal}
+use Rattle.cl_rules.specs.Shown.{shown}
 
 unfoldable pub code_of : Status → ℕ
 code_of status.Done = 0
@@ -22,18 +22,9 @@ code_of status.Usage = 64
 unfoldable pub usage_text : List ℕ
 usage_text = codes "closure: usage: check SRC | divide SRC DIR | run [options] SRC [LEVEL=FILE ...] | drill N\n"
 
-unfoldable pub rule_label : Rule → List ℕ
-rule_label SourceTooLong = codes "E01"
-rule_label NoReading = codes "E06"
-
-unfoldable pub rule_reason : Rule → List ℕ
-rule_reason SourceTooLong = codes "source too long"
-rule_reason NoReading = codes "no reading"
-
 -- a refusal names the rule, the line and what fails
-unfoldable pub refusal_text : Rule → ℕ → List ℕ
-refusal_text rule line =
-    codes "closure: " ++ (rule_label rule ++ (codes " at " ++ (decimal line ++ (codes ": " ++ (rule_reason rule ++ codes "\n")))))
+unfoldable pub refusal_text : Refusal → List ℕ
+refusal_text refusal = codes "closure: " ++ (shown refusal ++ codes "\n")
 
 unfoldable pub read_fault_text : List ℕ → List ℕ
 read_fault_text path = codes "closure: cannot read " ++ path ++ codes "\n"

@@ -1,70 +1,57 @@
 //! The top call: words in, texts, files and a status out.
 
-ghost use Rattle.std.specs.Prelude.{◌≡◌, ◌≢◌, ◌<◌, ◌≤◌, ◌↔◌, ◌⊎◌, ℕ, length, map, string_bytes, IfErr, OnOk, IsErrOf, Option, Some, option_map};
+ghost use Rattle.std.specs.Prelude.{◌≡◌, ◌≢◌, ◌<◌, ◌≤◌, ◌↔◌, ◌⊎◌, ℕ, length, map, string_bytes, IfErr, OnOk, IsErrOf, Option, Some, None, option_map};
 ghost use Rattle.std.specs.Option.{option_copied};
 ghost use Rattle.cl_base.specs.Outside.{Counts, Held, Rose};
-ghost use Rattle.cl_mean.specs.Meaning.{mean};
+ghost use Rattle.cl_run.specs.FormMeaning.{mean};
 ghost use Rattle.cl_run.specs.Runs.{IsServed, IsRun};
+ghost use Rattle.cl_words.specs.Words.{RunAsked, run_asked};
 ghost use Rattle.cl_job.specs.Answer.{Answer, Answered, FileGives, FilesHold, IsExpected, IsSettled, OnlyAt, SourceGives, WasGiven, journal_path, status_of};
+ghost use Rattle.cl_job.specs.Reports.{ErrStands, FilesStand, OnlyErr, OutStands, Puts, Refuses, Reports, WriteCounts};
 ghost use Rattle.cl_job.specs.Sinks.{Grew};
 ghost use Rattle.cl_job.specs.Texts.{usage_text, refusal_text};
-ghost use Rattle.cl_job.specs.Words.{RunAsked, run_asked};
-ghost use Rattle.cl_job.specs.Reports.{Puts, Refuses, Reports, WriteCounts};
 
 use crate::report::{ReportStop, put_report};
 use crate::status::Status;
-use crate::texts::{self, Rule};
-use crate::words::read_words;
+use crate::texts;
 use cl_base::limits::SOURCE_BYTES;
-use cl_base::name::NoMemory;
 use cl_base::outside::{FileStop, Files, Sink, WriteStop};
 use cl_form::form::read_form;
 use cl_form::stop::FormStop;
 use cl_mean::checked::Checked;
 use cl_mean::outcome::End;
+use cl_rules::rule::Refusal;
 use cl_run::run::{Finished, run_checked};
-use std::alloc::{AllocError, Global};
+use cl_words::words::{Run, read_words};
+use std::alloc::Global;
+use std::marker::Model;
 
 const USAGE: &str =
     "closure: usage: check SRC | divide SRC DIR | run [options] SRC [LEVEL=FILE ...] | drill N\n";
 
-/// Gives `err` a text. That it fails changes nothing.
-#[tactic(auto, using(crate::proofs::Growth::given))]
-fn complain<E: Sink>(err: &mut E, text: &str)
-    ensures { WasGiven text.now (E.fault_count err.old) (E.fault_count err.new) (E.written err.old) (E.written err.new) }
-{
-    let _ = err.put(text.as_bytes());
+/// What a command works with: memory, files, standard output and standard error.
+#[derive(Drop)]
+pub struct Job<F: Files, O: Sink, E: Sink> {
+    pub alloc: Global,
+    pub files: F,
+    pub out: O,
+    pub err: E,
 }
 
-/// Says how the program is used.
-#[tactic(auto, unfolding(crate::specs::Texts::usage_text))]
-fn explain<E: Sink>(err: &mut E) -> Status
-    ensures status { result ≡ Status.Usage }
-    ensures text { WasGiven usage_text (E.fault_count err.old) (E.fault_count err.new) (E.written err.old) (E.written err.new) }
-{
-    complain(err, USAGE);
-    Status::Usage
-}
+impl<F: Files, O: Sink, E: Sink> Model for Job<F, O, E> {
+    ghost use Rattle.cl_job.specs.Seen.{Seen};
 
-/// Says that memory ran out.
-fn give_up<E: Sink>(err: &mut E) -> Status
-    ensures { result ≡ Status.NoMemory }
-{
-    complain(err, "closure: out of memory\n");
-    Status::NoMemory
-}
+    ghost Value = { Seen };
 
-/// Says which rule a source fails; each is found at line 1.
-fn refuse<E: Sink>(alloc: Global, err: &mut E, rule: Rule) -> Status
-    ensures { Refuses rule result (E.fault_count err.old) (E.fault_count err.new) (E.written err.old) (E.written err.new) }
-{
-    match texts::refusal_text(alloc, rule, 1) {
-        Ok(text) => {
-            complain(err, text.as_str());
-            Status::Refused
-        }
-        Err(_) => give_up(err),
-    }
+    ghost view = { λ job. record {
+      files = F.held job.files;
+      read_count = F.read_count job.files;
+      write_count = F.write_count job.files;
+      out = O.written job.out;
+      out_count = O.fault_count job.out;
+      err = E.written job.err;
+      err_count = E.fault_count job.err;
+    } };
 }
 
 /// The status of a run that ended so.
@@ -77,200 +64,202 @@ fn status_of(end: End) -> Status
     }
 }
 
-/// Puts the report of a run that is over.
-#[tactic(auto, using(crate::proofs::Answers::put_whole))]
-fn put_finished<O: Sink, E: Sink>(
-    alloc: Global,
-    checked: &Checked,
-    finished: &Finished,
-    out: &mut O,
-    err: &mut E,
-) -> Status
-    requires { IsRun checked.now finished.now.state finished.now.hal finished.now.end (mean checked.now) }
-    ensures puts { Puts checked.now result (O.written out.old) (O.written out.new) }
-    ensures counts { Counts (result ≡ Status.WriteFault) (O.fault_count out.old) (O.fault_count out.new) }
-    ensures quiet { IsSettled result → err.new ≡ err.old }
-{
-    let names = checked.labels.levels.as_slice();
-    let levels = finished.state.levels.as_slice();
-    match put_report(
-        alloc,
-        out,
-        names,
-        levels,
-        finished.hal.frames(),
-        finished.end,
-    ) {
-        Ok(()) => status_of(finished.end),
-        Err(ReportStop::WriteFault) => {
-            complain(err, "closure: cannot write standard output\n");
-            Status::WriteFault
+impl<F: Files, O: Sink, E: Sink> Job<F, O, E> {
+    /// Gives standard error a text. That it fails changes nothing.
+    #[tactic(auto, using(crate::proofs::Growth::given))]
+    fn complain(&mut self, text: &str)
+        ensures given { WasGiven text.now self.old self.new }
+        ensures rest { OnlyErr self.old self.new }
+    {
+        let _ = self.err.put(text.as_bytes());
+    }
+
+    /// Says how the program is used.
+    #[tactic(auto, unfolding(crate::specs::Texts::usage_text))]
+    fn explain(&mut self) -> Status
+        ensures status { result ≡ Status.Usage }
+        ensures text { WasGiven usage_text self.old self.new }
+        ensures rest { OnlyErr self.old self.new }
+    {
+        self.complain(USAGE);
+        Status::Usage
+    }
+
+    /// Says that memory ran out.
+    fn give_up(&mut self) -> Status
+        ensures status { result ≡ Status.NoMemory }
+        ensures rest { OnlyErr self.old self.new }
+    {
+        self.complain("closure: out of memory\n");
+        Status::NoMemory
+    }
+
+    /// Says which rule a source fails.
+    fn refuse(&mut self, refusal: Refusal) -> Status
+        ensures refuses { Refuses refusal result self.old self.new }
+        ensures rest { OnlyErr self.old self.new }
+    {
+        match texts::refusal_text(self.alloc, refusal) {
+            Ok(text) => {
+                self.complain(text.as_str());
+                Status::Refused
+            }
+            Err(_) => self.give_up(),
         }
-        Err(ReportStop::NoMemory) => give_up(err),
     }
-}
 
-/// Writes a file, or says why it wasn't written and answers how the command ends.
-fn write_file<F: Files, E: Sink>(
-    alloc: Global,
-    path: &str,
-    bytes: &[u8],
-    files: &mut F,
-    err: &mut E,
-) -> Result<(), Status>
-    ensures wrote { OnOk result (FilesHold (Some (path.now, bytes.now)) (F.held files.old) (F.held files.new)) }
-    ensures only { OnlyAt (Some path.now) (F.held files.old) (F.held files.new) }
-    ensures stops { IfErr result (λ status. (status ≡ Status.WriteFault) ⊎ (status ≡ Status.NoMemory)) }
-    ensures counts { Counts (IsErrOf result Status.WriteFault) (F.write_count files.old) (F.write_count files.new) }
-    ensures reads_stand { F.read_count files.new ≡ F.read_count files.old }
-    ensures quiet { OnOk result (err.new ≡ err.old) }
-{
-    let Ok(fault_text) = texts::write_fault_text(alloc, path) else {
-        return Err(give_up(err));
-    };
-    match files.write(path, bytes) {
-        Ok(()) => Ok(()),
-        Err(WriteStop::Failed) => {
-            complain(err, fault_text.as_str());
-            Err(Status::WriteFault)
+    /// Writes a file, or says why it wasn't written and answers how the command ends.
+    fn write_file(&mut self, path: &str, bytes: &[u8]) -> Result<(), Status>
+        ensures wrote { OnOk result (FilesHold (Some (path.now, bytes.now)) self.old.files self.new.files) }
+        ensures only { OnlyAt (Some path.now) self.old.files self.new.files }
+        ensures stops { IfErr result (λ status. (status ≡ Status.WriteFault) ⊎ (status ≡ Status.NoMemory)) }
+        ensures counts { Counts (IsErrOf result Status.WriteFault) self.old.write_count self.new.write_count }
+        ensures reads_stand { self.new.read_count ≡ self.old.read_count }
+        ensures out_stands { OutStands self.old self.new }
+        ensures quiet { OnOk result (ErrStands self.old self.new) }
+        ensures err_count { self.old.err_count ≤ self.new.err_count }
+    {
+        let Ok(fault_text) = texts::write_fault_text(self.alloc, path) else {
+            return Err(self.give_up());
+        };
+        match self.files.write(path, bytes) {
+            Ok(()) => Ok(()),
+            Err(WriteStop::Failed) => {
+                self.complain(fault_text.as_str());
+                Err(Status::WriteFault)
+            }
+            Err(WriteStop::NoMemory) => Err(self.give_up()),
         }
-        Err(WriteStop::NoMemory) => Err(give_up(err)),
     }
-}
 
-/// Writes the journal of a run, where it is asked for.
-fn keep_journal<F: Files, E: Sink>(
-    alloc: Global,
-    journal: Option<&str>,
-    bytes: &[u8],
-    files: &mut F,
-    err: &mut E,
-) -> Result<(), Status>
-    ensures wrote { OnOk result (FilesHold (option_map (λ path. (path, bytes.now)) (option_copied journal.entry)) (F.held files.old) (F.held files.new)) }
-    ensures only { OnlyAt (option_copied journal.entry) (F.held files.old) (F.held files.new) }
-    ensures stops { IfErr result (λ status. (status ≡ Status.WriteFault) ⊎ (status ≡ Status.NoMemory)) }
-    ensures counts { Counts (IsErrOf result Status.WriteFault) (F.write_count files.old) (F.write_count files.new) }
-    ensures reads_stand { F.read_count files.new ≡ F.read_count files.old }
-    ensures quiet { OnOk result (err.new ≡ err.old) }
-{
-    match journal {
-        Some(path) => write_file(alloc, path, bytes, files, err),
-        None => Ok(()),
-    }
-}
-
-/// Runs a checked source, keeps its journal and puts its report.
-#[tactic(auto, using(crate::proofs::Answers::reports))]
-fn report<F: Files, O: Sink, E: Sink>(
-    alloc: Global,
-    checked: &Checked,
-    journal: Option<&str>,
-    files: &mut F,
-    out: &mut O,
-    err: &mut E,
-) -> Status
-    requires { IsServed checked.now }
-    ensures reports { Reports checked.now (option_copied journal.entry) result (F.held files.old) (F.held files.new) (O.written out.old) (O.written out.new) }
-    ensures only { OnlyAt (option_copied journal.entry) (F.held files.old) (F.held files.new) }
-    ensures counts { WriteCounts (result ≡ Status.WriteFault) (F.write_count files.old) (F.write_count files.new) (O.fault_count out.old) (O.fault_count out.new) }
-    ensures reads_stand { F.read_count files.new ≡ F.read_count files.old }
-    ensures quiet { IsSettled result → err.new ≡ err.old }
-{
-    let Ok(finished) = run_checked(alloc, checked) else {
-        return give_up(err);
-    };
-    match keep_journal(alloc, journal, finished.hal.journal(), files, err) {
-        Ok(()) => put_finished(alloc, checked, &finished, out, err),
-        Err(status) => status,
-    }
-}
-
-/// Judges a source, and runs it where it is accepted.
-#[tactic(auto, using(crate::proofs::Answers::answers))]
-fn run_bytes<F: Files, O: Sink, E: Sink>(
-    alloc: Global,
-    source: &[u8],
-    journal: Option<&str>,
-    files: &mut F,
-    out: &mut O,
-    err: &mut E,
-) -> Status
-    requires { length source.now ≤ 1048576 }
-    ensures answered { IsSettled result → Answered (SourceGives (option_copied journal.entry) source.now) result (F.held files.old) (F.held files.new) (O.written out.old) (O.written out.new) (E.fault_count err.old) (E.fault_count err.new) (E.written err.old) (E.written err.new) }
-    ensures only { OnlyAt (option_copied journal.entry) (F.held files.old) (F.held files.new) }
-    ensures counts { WriteCounts (result ≡ Status.WriteFault) (F.write_count files.old) (F.write_count files.new) (O.fault_count out.old) (O.fault_count out.new) }
-    ensures reads_stand { F.read_count files.new ≡ F.read_count files.old }
-    ensures no_read { result ≢ Status.ReadFault }
-    ensures understood { result ≢ Status.Usage }
-{
-    match read_form(alloc, source) {
-        Ok(checked) => report(alloc, &checked, journal, files, out, err),
-        Err(FormStop::NoReading) => refuse(alloc, err, Rule::NoReading),
-        Err(FormStop::NoMemory) => give_up(err),
-    }
-}
-
-/// Runs the source in a file.
-#[tactic(auto, using(crate::proofs::Answers::answers))]
-fn run_file<F: Files, O: Sink, E: Sink>(
-    alloc: Global,
-    path: &str,
-    journal: Option<&str>,
-    files: &mut F,
-    out: &mut O,
-    err: &mut E,
-) -> Status
-    ensures answered { IsSettled result → Answered (FileGives (F.held files.old) (record { source = path.now; journal = option_copied journal.entry })) result (F.held files.old) (F.held files.new) (O.written out.old) (O.written out.new) (E.fault_count err.old) (E.fault_count err.new) (E.written err.old) (E.written err.new) }
-    ensures only { OnlyAt (option_copied journal.entry) (F.held files.old) (F.held files.new) }
-    ensures read_counts { Counts (result ≡ Status.ReadFault) (F.read_count files.old) (F.read_count files.new) }
-    ensures write_counts { WriteCounts (result ≡ Status.WriteFault) (F.write_count files.old) (F.write_count files.new) (O.fault_count out.old) (O.fault_count out.new) }
-    ensures understood { result ≢ Status.Usage }
-{
-    let Ok(fault_text) = texts::read_fault_text(alloc, path) else {
-        return give_up(err);
-    };
-    match files.read(alloc, path, SOURCE_BYTES) {
-        Ok(source) => run_bytes(alloc, source.as_slice(), journal, files, out, err),
-        Err(FileStop::TooLong) => refuse(alloc, err, Rule::SourceTooLong),
-        Err(FileStop::Failed) => {
-            complain(err, fault_text.as_str());
-            Status::ReadFault
+    /// Writes the journal of a run, where it is asked for.
+    fn keep_journal(&mut self, journal: Option<&str>, bytes: &[u8]) -> Result<(), Status>
+        ensures wrote { OnOk result (FilesHold (option_map (λ path. (path, bytes.now)) (option_copied journal.entry)) self.old.files self.new.files) }
+        ensures only { OnlyAt (option_copied journal.entry) self.old.files self.new.files }
+        ensures stops { IfErr result (λ status. (status ≡ Status.WriteFault) ⊎ (status ≡ Status.NoMemory)) }
+        ensures counts { Counts (IsErrOf result Status.WriteFault) self.old.write_count self.new.write_count }
+        ensures reads_stand { self.new.read_count ≡ self.old.read_count }
+        ensures out_stands { OutStands self.old self.new }
+        ensures quiet { OnOk result (ErrStands self.old self.new) }
+        ensures err_count { self.old.err_count ≤ self.new.err_count }
+    {
+        match journal {
+            Some(path) => self.write_file(path, bytes),
+            None => Ok(()),
         }
-        Err(FileStop::NoMemory) => give_up(err),
+    }
+
+    /// Puts the report of a run that is over.
+    #[tactic(auto, using(crate::proofs::Answers::put_whole))]
+    fn put_finished(&mut self, checked: &Checked, finished: &Finished) -> Status
+        requires { IsRun checked.now finished.now.state finished.now.hal finished.now.end (mean checked.now) }
+        ensures puts { Puts checked.now result self.old self.new }
+        ensures counts { Counts (result ≡ Status.WriteFault) self.old.out_count self.new.out_count }
+        ensures files_stand { FilesStand self.old self.new }
+        ensures quiet { IsSettled result → ErrStands self.old self.new }
+        ensures err_count { self.old.err_count ≤ self.new.err_count }
+    {
+        let names = checked.labels.levels.as_slice();
+        match put_report(self.alloc, &mut self.out, names, finished) {
+            Ok(()) => status_of(finished.end),
+            Err(ReportStop::WriteFault) => {
+                self.complain("closure: cannot write standard output\n");
+                Status::WriteFault
+            }
+            Err(ReportStop::NoMemory) => self.give_up(),
+        }
+    }
+
+    /// Runs a checked source, keeps its journal and puts its report.
+    #[tactic(auto, using(crate::proofs::Answers::reports))]
+    fn report(&mut self, checked: &Checked, journal: Option<&str>) -> Status
+        requires { IsServed checked.now }
+        ensures reports { Reports checked.now (option_copied journal.entry) result self.old self.new }
+        ensures only { OnlyAt (option_copied journal.entry) self.old.files self.new.files }
+        ensures counts { WriteCounts (result ≡ Status.WriteFault) self.old self.new }
+        ensures reads_stand { self.new.read_count ≡ self.old.read_count }
+        ensures quiet { IsSettled result → ErrStands self.old self.new }
+        ensures err_count { self.old.err_count ≤ self.new.err_count }
+    {
+        let Ok(finished) = run_checked(self.alloc, checked) else {
+            return self.give_up();
+        };
+        match self.keep_journal(journal, finished.hal.journal()) {
+            Ok(()) => self.put_finished(checked, &finished),
+            Err(status) => status,
+        }
+    }
+
+    /// Judges a source, and runs it where it is accepted.
+    #[tactic(auto, using(crate::proofs::Answers::answers))]
+    fn run_bytes(&mut self, source: &[u8], journal: Option<&str>) -> Status
+        requires { length source.now ≤ 1048576 }
+        ensures answered { IsSettled result → Answered (SourceGives (option_copied journal.entry) source.now) result self.old self.new }
+        ensures only { OnlyAt (option_copied journal.entry) self.old.files self.new.files }
+        ensures counts { WriteCounts (result ≡ Status.WriteFault) self.old self.new }
+        ensures reads_stand { self.new.read_count ≡ self.old.read_count }
+        ensures err_count { self.old.err_count ≤ self.new.err_count }
+        ensures no_read { result ≢ Status.ReadFault }
+        ensures understood { result ≢ Status.Usage }
+    {
+        match read_form(self.alloc, source) {
+            Ok(checked) => self.report(&checked, journal),
+            Err(FormStop::NoReading) => self.refuse(Refusal { rule: 6, line: 1 }),
+            Err(FormStop::NoMemory) => self.give_up(),
+        }
+    }
+
+    /// Runs the source in a file.
+    #[tactic(auto, using(crate::proofs::Answers::answers))]
+    fn run_file(&mut self, run: Run<'_>) -> Status
+        ensures answered { IsSettled result → Answered (FileGives self.old.files (record { source = run.entry.source.now; journal = option_copied run.entry.journal })) result self.old self.new }
+        ensures only { OnlyAt (option_copied run.entry.journal) self.old.files self.new.files }
+        ensures read_counts { Counts (result ≡ Status.ReadFault) self.old.read_count self.new.read_count }
+        ensures write_counts { WriteCounts (result ≡ Status.WriteFault) self.old self.new }
+        ensures err_count { self.old.err_count ≤ self.new.err_count }
+        ensures understood { result ≢ Status.Usage }
+    {
+        let Ok(fault_text) = texts::read_fault_text(self.alloc, run.source) else {
+            return self.give_up();
+        };
+        match self.files.read(self.alloc, run.source, SOURCE_BYTES) {
+            Ok(source) => self.run_bytes(source.as_slice(), run.journal),
+            Err(FileStop::TooLong) => self.refuse(Refusal { rule: 1, line: 1 }),
+            Err(FileStop::Failed) => {
+                self.complain(fault_text.as_str());
+                Status::ReadFault
+            }
+            Err(FileStop::NoMemory) => self.give_up(),
+        }
     }
 }
 
 /// Carries out the command that the words ask for, and answers how it ended. What it finds goes to
-/// `out` and into the journal's file, and why it ends early to `err`; that a put on `err` fails leaves
-/// the answer.
+/// standard output and into the journal's file, and why it ends early to standard error; that a put
+/// on standard error fails leaves the answer.
 #[tactic(auto, using(crate::proofs::Answers::answers))]
-pub fn closure<F: Files, O: Sink, E: Sink>(
-    alloc: Global,
-    words: &[String],
-    files: &mut F,
-    out: &mut O,
-    err: &mut E,
-) -> Status
+pub fn closure<F: Files, O: Sink, E: Sink>(job: &mut Job<F, O, E>, words: &[String]) -> Status
     // By content: without a fault and with memory enough, the expected answer is given.
-    ensures answered { IsSettled result → Answered (IsExpected (F.held files.old) (run_asked (map string_bytes words.now))) result (F.held files.old) (F.held files.new) (O.written out.old) (O.written out.new) (E.fault_count err.old) (E.fault_count err.new) (E.written err.old) (E.written err.new) }
+    ensures answered { IsSettled result → Answered (IsExpected job.old.files (run_asked (map string_bytes words.now))) result job.old job.new }
 
     // By cause.
     ensures usage { (result ≡ Status.Usage) ↔ (run_asked (map string_bytes words.now) ≡ None) }
-    ensures read_fault { result ≡ Status.ReadFault → Rose (F.read_count files.old) (F.read_count files.new) }
-    ensures read_fault_told { F.read_count files.old < F.read_count files.new → result ≡ Status.ReadFault }
-    ensures write_fault { result ≡ Status.WriteFault → Rose (F.write_count files.old) (F.write_count files.new) ⊎ Rose (O.fault_count out.old) (O.fault_count out.new) }
-    ensures file_fault_told { F.write_count files.old < F.write_count files.new → result ≡ Status.WriteFault }
-    ensures write_fault_told { O.fault_count out.old < O.fault_count out.new → result ≡ Status.WriteFault }
+    ensures read_fault { result ≡ Status.ReadFault → Rose job.old.read_count job.new.read_count }
+    ensures read_fault_told { job.old.read_count < job.new.read_count → result ≡ Status.ReadFault }
+    ensures write_fault { result ≡ Status.WriteFault → Rose job.old.write_count job.new.write_count ⊎ Rose job.old.out_count job.new.out_count }
+    ensures file_fault_told { job.old.write_count < job.new.write_count → result ≡ Status.WriteFault }
+    ensures write_fault_told { job.old.out_count < job.new.out_count → result ≡ Status.WriteFault }
 
-    // What stands.
-    ensures read_counts { F.read_count files.old ≤ F.read_count files.new }
-    ensures write_counts { F.write_count files.old ≤ F.write_count files.new }
-    ensures out_counts { O.fault_count out.old ≤ O.fault_count out.new }
-    ensures only { OnlyAt (journal_path (run_asked (map string_bytes words.now))) (F.held files.old) (F.held files.new) }
+    // What stands. No count falls.
+    ensures read_counts { job.old.read_count ≤ job.new.read_count }
+    ensures write_counts { job.old.write_count ≤ job.new.write_count }
+    ensures out_counts { job.old.out_count ≤ job.new.out_count }
+    ensures err_counts { job.old.err_count ≤ job.new.err_count }
+    ensures only { OnlyAt (journal_path (run_asked (map string_bytes words.now))) job.old.files job.new.files }
 {
     match read_words(words) {
-        Some(run) => run_file(alloc, run.source, run.journal, files, out, err),
-        None => explain(err),
+        Some(run) => job.run_file(run),
+        None => job.explain(),
     }
 }
 

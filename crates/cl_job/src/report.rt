@@ -9,8 +9,8 @@ ghost use Rattle.cl_job.specs.Texts.{last_text};
 use crate::texts;
 use cl_base::name::Name;
 use cl_base::outside::{Failed, Sink};
-use cl_mean::outcome::End;
-use cl_mean::state::LevelState;
+use cl_run::run::Finished;
+use cl_run::state::LevelState;
 use sqlite_items::Items;
 use std::alloc::{AllocError, Global};
 
@@ -98,15 +98,13 @@ pub fn put_report<O: Sink>(
     alloc: Global,
     out: &mut O,
     names: &[Name],
-    levels: &[LevelState],
-    frames: u64,
-    end: End,
+    finished: &Finished,
 ) -> Result<(), ReportStop>
     ensures counts { Counts (IsErrOf result ReportStop.WriteFault) (O.fault_count out.old) (O.fault_count out.new) }
-    ensures wrote { OnOk result (Grew (levels_text names.now (map (λ l. l.output) levels.now) ++ last_text names.now frames end) (O.written out.old) (O.written out.new)) }
+    ensures wrote { OnOk result (Grew (levels_text names.now (map (λ l. l.output) finished.now.state.levels) ++ last_text names.now finished.now.hal.frames finished.now.end) (O.written out.old) (O.written out.new)) }
 {
-    let last = texts::last_text(alloc, names, frames, end)?;
-    put_levels(alloc, out, names, levels)?;
+    let last = texts::last_text(alloc, names, finished.hal.frames(), finished.end)?;
+    put_levels(alloc, out, names, finished.state.levels.as_slice())?;
     put(out, last.as_bytes())?;
     Ok(())
 }

@@ -1,54 +1,20 @@
 //! The texts that the program writes.
 
 ghost use Rattle.std.specs.Prelude.{◌≡◌, IfOk, codes, string_bytes, ◌++◌, ◌∷◌, [], OnOk};
-ghost use Rattle.cl_job.specs.Texts.{usage_text, refusal_text, read_fault_text, write_fault_text, rule_label, rule_reason, cause_word, level_head, end_text, last_text, name_at};
+ghost use Rattle.cl_job.specs.Texts.{usage_text, refusal_text, read_fault_text, write_fault_text, cause_word, level_head, end_text, last_text, name_at};
 
 use cl_base::name::Name;
 use cl_mean::outcome::{End, Trap};
+use cl_rules::rule::Refusal;
 use cl_tree::kinds::TrapCause;
 use std::alloc::{AllocError, Global};
 
-/// A rule that a source can fail.
-#[derive(Clone, Copy, Debug, PartialEq, Eq)]
-pub enum Rule {
-    /// The source has more bytes than a source may have.
-    SourceTooLong,
-    /// The source is of no form that can be read.
-    NoReading,
-}
-
-impl Rule {
-    /// The rule's number, as it is printed.
-    #[tactic(auto, unfolding(crate::specs::Texts::rule_label))]
-    pub fn label(self) -> &'static str
-        ensures { result.now ≡ rule_label self }
-    {
-        match self {
-            Rule::SourceTooLong => "E01",
-            Rule::NoReading => "E06",
-        }
-    }
-
-    /// What fails.
-    #[tactic(auto, unfolding(crate::specs::Texts::rule_reason))]
-    pub fn reason(self) -> &'static str
-        ensures { result.now ≡ rule_reason self }
-    {
-        match self {
-            Rule::SourceTooLong => "source too long",
-            Rule::NoReading => "no reading",
-        }
-    }
-}
-
 /// The text of a refusal.
 #[tactic(auto, unfolding(crate::specs::Texts::refusal_text))]
-pub fn refusal_text(alloc: Global, rule: Rule, line: u32) -> Result<String, AllocError>
-    ensures { IfOk result (λ text. string_bytes text ≡ refusal_text rule line) }
+pub fn refusal_text(alloc: Global, refusal: Refusal) -> Result<String, AllocError>
+    ensures { IfOk result (λ text. string_bytes text ≡ refusal_text refusal) }
 {
-    let label = rule.label();
-    let reason = rule.reason();
-    format!(in alloc; "closure: {label} at {line}: {reason}\n")
+    format!(in alloc; "closure: {refusal}\n")
 }
 
 /// The text of a read that failed.

@@ -1,11 +1,9 @@
-//! A call on a stack that deep recursion does not exhaust.
+//! A call on a stack of a size that is asked for.
+
+ghost use Rattle.std.specs.Prelude.{◌⊎◌};
 
 use std::snapshot::Snapshot;
 use std::thread::{Builder, Promise, Threads};
-
-/// The stack that a call gets, in bytes. A source of 1 MiB can nest some 130,000 deep, and the reader recurs on it. The
-/// system hands out pages only as they are touched, so a shallow call costs no more memory than on a small stack.
-const STACK_BYTES: usize = 1 << 30;
 
 /// What can be called once: it may be while it is `ready`, and returns something that it `gives`. It stands for `FnOnce`,
 /// which can't be a bound of a promise yet.
@@ -37,24 +35,29 @@ impl<C: Call<T>, T> Promise<T> for GivenBy<C> {
     ghost kept_by = { λ promise result. C.gives promise.0.value result };
 }
 
-/// Calls `work` on a thread with a large stack and waits for it. Where no such thread can be had, as in a small address
-/// space, it calls `work` on the caller's own.
-pub fn on_large_stack<R, C, T>(rt: &R, work: C) -> T
+/// Calls `deep` on a thread with a stack of this many bytes and waits for it. Where no such thread can be had, as in
+/// a small address space, it calls `shallow` on the caller's own stack. The system hands out a stack's pages only as
+/// they are touched.
+pub fn on_large_stack<R, C, D, T>(rt: &R, bytes: usize, deep: C, shallow: D) -> T
 where
     R: Threads,
     C: Call<T> + Send + Drop + 'static,
+    D: Call<T> + Drop,
     T: Send + Drop + 'static,
-    requires { C.ready work }
-    ensures { C.gives work result }
+    requires deep { C.ready deep }
+    requires shallow { D.ready shallow }
+    ensures { C.gives deep result ⊎ D.gives shallow result }
 {
-    let promise = GivenBy(Snapshot::of(&work));
+    let promise = GivenBy(Snapshot::of(&deep));
     let run = move || -> T
-        requires { C.ready work }
-        ensures { C.gives work result }
-    { work.call() };
-    let large = Builder::new().stack_size(STACK_BYTES);
-    match large.spawn_with(rt, promise, run) {
+        requires { C.ready deep }
+        ensures { C.gives deep result }
+    { deep.call() };
+    match Builder::new()
+        .stack_size(bytes)
+        .spawn_with(rt, promise, run)
+    {
         Ok(child) => child.join(rt),
-        Err(refused) => (refused.value)(),
+        Err(_) => shallow.call(),
     }
 }

@@ -1,53 +1,78 @@
 //! The program: the top call over the real files and streams.
 #![tactic(auto)]
 
-ghost use Rattle.std.specs.Prelude.{◌≡◌, ◌↔◌, map, string_bytes, None};
-ghost use Rattle.cl_job.specs.Words.{run_asked};
+ghost use Rattle.std.specs.Prelude.{◌≡◌, ◌↔◌, ◌≤◌, map, string_bytes, None};
+ghost use Rattle.cl_words.specs.Words.{run_asked};
 
+mod arguments;
+mod fitted;
 mod large_stack;
 
+use arguments::{ArgumentStop, words};
 use cl_base::host::{HostFiles, HostSink, Streams};
-use cl_job::job::closure;
+use cl_base::limits::SOURCE_BYTES;
+use cl_job::job::{Job, closure};
 use cl_job::status::Status;
+use cl_words::words::read_words;
+use fitted::{Fitted, SMALL_ROOM, stack_bytes};
 use large_stack::on_large_stack;
 use std::alloc::Global;
+use std::fs;
 use std::process::ExitCode;
-use std::rt::{Env, Files};
+use std::rt::Files;
 use std::thread::Threads;
-use std::{env, io};
 
-/// The exit status where there is no memory for the words.
-const NO_MEMORY: u8 = 5;
-
-/// The words behind the program's name.
-fn words(rt: &(impl Env + Alloc<A = Global>)) -> io::Result<Vec<String>> {
-    let mut words = Vec::new(rt.alloc());
-    for word in env::args(rt)?.skip(1) {
-        words.push(word)?;
+/// How long a source the stack is to have room for: as long as the file that the words ask for. Of a pipe nothing is
+/// known before it is read.
+fn room_for(rt: &impl Files, words: &[String]) -> usize
+    ensures { result ≤ 1048576 }
+{
+    let Some(run) = read_words(words) else {
+        return SMALL_ROOM;
+    };
+    match fs::metadata(rt, run.source) {
+        Ok(file) if file.is_file() => {
+            let length = file.len().min(SOURCE_BYTES as u64) as usize;
+            length.max(SMALL_ROOM)
+        }
+        Ok(_) => SOURCE_BYTES,
+        Err(_) => SMALL_ROOM,
     }
-    Ok(words)
 }
 
-/// Carries out the command over the files and the streams of the system.
-fn answer(rt: &(impl Files + Streams + Alloc<A = Global>), words: &[String]) -> Status
+/// Carries out the command over the files and the streams of the system, on a stack with room for a source of so many
+/// bytes.
+fn answer(rt: &(impl Files + Streams + Alloc<A = Global>), words: &[String], room: usize) -> Status
     ensures usage { (result ≡ Status.Usage) ↔ (run_asked (map string_bytes words.now) ≡ None) }
 {
-    let mut files = HostFiles::new(rt);
-    let mut out = HostSink::out(rt);
-    let mut err = HostSink::err(rt);
-    closure(rt.alloc(), words, &mut files, &mut out, &mut err)
+    let mut job = Job {
+        alloc: rt.alloc(),
+        files: Fitted::new(HostFiles::new(rt), room),
+        out: HostSink::out(rt),
+        err: HostSink::err(rt),
+    };
+    closure(&mut job, words)
 }
 
-/// As `answer`, with the stack that the deepest source needs.
-fn answer_deep(threads: &impl Threads, rt: HostRuntime, words: Vec<String>) -> Status
-    ensures usage { (result ≡ Status.Usage) ↔ (run_asked (map string_bytes words.items) ≡ None) }
+/// As `answer`, with the stack that the source needs, or the one that is there.
+fn answer_deep(threads: &impl Threads, rt: HostRuntime, words: &'static [String]) -> Status
+    ensures usage { (result ≡ Status.Usage) ↔ (run_asked (map string_bytes words.now) ≡ None) }
 {
-    on_large_stack(threads, move || answer(&rt, words.as_slice()))
+    let room = room_for(&rt, words);
+    on_large_stack(
+        threads,
+        stack_bytes(room),
+        move || answer(&rt, words, room),
+        move || answer(&rt, words, SMALL_ROOM),
+    )
 }
 
 fn main(rt: HostRuntime) -> ExitCode {
-    match words(&rt) {
-        Ok(words) => ExitCode::from(answer_deep(&rt, rt, words).code()),
-        Err(_) => ExitCode::from(NO_MEMORY),
-    }
+    let words = match words(&rt) {
+        Ok(words) => words,
+        // A word that is no text has no reading, as no words at all have none.
+        Err(ArgumentStop::NotText) => Vec::new(rt.alloc()),
+        Err(ArgumentStop::NoMemory) => return ExitCode::from(Status::NoMemory.code()),
+    };
+    ExitCode::from(answer_deep(&rt, rt, words.leak()).code())
 }

@@ -3,5 +3,3 @@
 
 pub mod frame;
 pub mod payload;
-#[cfg(test)]
-mod tests;

@@ -4,4 +4,4 @@ use Rattle.cl_job.proofs.job.closure.Goals as goal
 
 pub returns-in-None-clause-answered : goal.returns-in-None-clause-answered
 returns-in-None-clause-answered g c =
-    λ _. usage_answered _ _ _ _ _ _ _ _ _ c.in-None.ensures c.explain.ensures.status c.explain.ensures.text
+    λ _. usage_answered _ _ _ _ _ c.in-None.ensures c.explain.ensures.status c.explain.ensures.text c.explain.ensures.rest

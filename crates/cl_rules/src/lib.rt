@@ -1,0 +1,4 @@
+//! The rules that a source can fail.
+#![tactic(auto)]
+
+pub mod rule;

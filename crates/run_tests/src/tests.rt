@@ -1,0 +1,5 @@
+//! The tests, by crate.
+
+mod forms;
+mod router;
+mod runs;
