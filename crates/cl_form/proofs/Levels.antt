@@ -4,10 +4,12 @@ use Rattle.std.specs.List.{list_all}
 use Rattle.std.proofs.lemmas.Bool.Decides.{nat_tests}
 use Rattle.std.proofs.lemmas.Str.{IsUtf8-from_ascii}
 use Rattle.std.specs.Str.{IsUtf8, IsAscii}
+use Rattle.cl_tree.specs.Letters.{is_letter, is_digit}
 use Rattle.cl_form.specs.Form.{is_level_byte, is_level}
 use Rattle.cl_form.proofs.Steps.{and_elim}
 
 byte_ascii : (b : ℕ) → is_level_byte b ≡ true → b < 128
+unfolding is_letter is_digit
 byte_ascii b e = grind (arith, nat_tests)
 
 bytes_ascii : (w : List ℕ) → list_all is_level_byte w ≡ true → IsAscii w
