@@ -1,6 +1,6 @@
 -- What one frame more adds to a level's own run: at most one frame, of the turn behind it; nothing to a stop frame. These are the
 -- laws that the joined run asks of a level.
-use Rattle.std.proofs.Common.{◌≡◌, ℕ, suc, List, [], ◌∷◌, ◌++◌, refl, sym, subst, Bool, true, false, ◌==◌, ◌&&◌, if◌then◌else◌, Option, Some, None, ℤ}
+use Rattle.std.proofs.Common.{◌≡◌, ℕ, List, [], ◌∷◌, ◌++◌, refl, sym, subst, Bool, true, false, ◌==◌, ◌&&◌, if◌then◌else◌, Option, Some, None, ℤ}
 use Rattle.cl_mean.specs.declared.checked.Checked.{Checked}
 use Rattle.cl_mean.specs.Shape.{kinds_of}
 use Rattle.cl_mean.specs.State.{State}

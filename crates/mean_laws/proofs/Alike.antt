@@ -4,11 +4,11 @@ use Rattle.cl_tree.specs.Arithmetic.{value}
 use Rattle.cl_mean.specs.Value.{Labelled, Value, Values, number, parts, no_more, ◌then◌, each, each_of, sole, nth, part}
 use Rattle.cl_mean.specs.Shape.{Shape, nothing, integer, struct, array, converted}
 use Rattle.cl_mean.specs.State.{State, Place, Written, deeper, get_byte, put_byte, count_step, begin_call, end_call, pay}
-use Rattle.cl_mean.specs.Course.{Stop, unbounded, Ask, Reply, Course, comes, stops, asks, Step, pure, halted, asked, goes_to, ◌>>=◌, fetched, stored, made, within}
+use Rattle.cl_mean.specs.Course.{Stop, traps, unbounded, meaningless, Ask, Course, comes, stops, asks, Step, pure, halted, asked, goes_to, ◌>>=◌, ◌>>◌, fetched, stored, made, within}
 use Rattle.cl_mean.specs.Source.{Binding, Env, Definition}
 use Rattle.cl_mean.specs.Evaluation.{Spot, Argument, given, lent, Calls}
 pub use Rattle.mean_laws.specs.Alike.{Num, Same, SameAll, Nums, Replies, Asks, SideBySide}
-use Rattle.cl_mean.specs.Execution.{Ending, goes_on, breaks, continues, returns}
+use Rattle.cl_mean.specs.Execution.{Ending, goes_on, breaks, continues, returns, looped, turns}
 
 mutual
   pub each_same : (f g : Labelled → Labelled) → ((x y : Labelled) → Num x y → Num (f x) (g y)) → (v w : Value) → Same v w → Same (each f v) (each g w)
@@ -65,13 +65,21 @@ converted_same (integer kind) (parts vs) (parts ws) s = s
 abbrev pub Any : {A B : Type 0} → A → B → Type 0
 Any a b = Unit {0}
 
+-- a stop that isn't the bound's
+abbrev pub IsOwn : Stop → Type 0
+IsOwn (traps level t) = Unit {0}
+IsOwn unbounded = ⊥
+IsOwn meaningless = Unit {0}
+
 -- A family of relations on steps, one for each relation `P` on their results, by which steps are put together. Where a step stops so
--- that `Lax` holds, nothing is said of the other: it may go on, with more turns.
+-- that `Lax` holds, nothing is said of the other: it may go on, with more turns. It speaks of runs that meet the bound where `Meets` holds.
 pub record Family : Type 1 where
   pub Lax : Stop → Type 0
+  pub Meets : Type 0
   pub Like : {A B : Type 0} → (A → B → Type 0) → Step A → Step B → Type 0
   pub pures : {A B : Type 0} (P : A → B → Type 0) (a : A) (b : B) → P a b → Like P (pure a) (pure b)
-  pub halts : {A B : Type 0} (P : A → B → Type 0) (stop : Stop) → Like P (halted stop) (halted stop)
+  pub halts : {A B : Type 0} (P : A → B → Type 0) (stop : Stop) → IsOwn stop → Like P (halted stop) (halted stop)
+  pub meets : {A B : Type 0} (P : A → B → Type 0) → Meets → Like P (halted unbounded) (halted unbounded)
   pub laxes : {A B : Type 0} (P : A → B → Type 0) (stop : Stop) (n : Step B) → Lax stop → Like P (halted stop) n
   pub thens : {A B C D : Type 0} (P : A → B → Type 0) (Q : C → D → Type 0) (m : Step A) (n : Step B) (f : A → Step C) (g : B → Step D) → Like P m n → ((a : A) (b : B) → P a b → Like Q (f a) (g b)) → Like Q (m >>= f) (n >>= g)
 
@@ -82,8 +90,11 @@ module _ (F : Family) where
   pub alike_pure : {A B : Type 0} (P : A → B → Type 0) (a : A) (b : B) → P a b → Alike P (pure a) (pure b)
   alike_pure P a b p = F.pures P a b p
 
-  pub alike_halt : {A B : Type 0} (P : A → B → Type 0) (stop : Stop) → Alike P (halted stop) (halted stop)
-  alike_halt P stop = F.halts P stop
+  pub alike_halt : {A B : Type 0} (P : A → B → Type 0) (stop : Stop) → IsOwn stop → Alike P (halted stop) (halted stop)
+  alike_halt P stop o = F.halts P stop o
+
+  pub alike_meet : {A B : Type 0} (P : A → B → Type 0) → F.Meets → Alike P (halted unbounded) (halted unbounded)
+  alike_meet P m = F.meets P m
 
   pub alike_lax : {A B : Type 0} (P : A → B → Type 0) (stop : Stop) (n : Step B) → F.Lax stop → Alike P (halted stop) n
   alike_lax P stop n l = F.laxes P stop n l
@@ -170,6 +181,21 @@ all_known (Some d) = tt
 abbrev pub CallsAlike : (F : Family) (At : Place → Place → Type 0) (Known : Definition → Type 0) → Definition → Calls → Calls → Type 0
 CallsAlike F At Known here calls calls' = (line : ℕ) (d : Definition) → Known d → (xs ys : List Argument) → Args At xs ys → Alike F Same (calls here line d xs) (calls' here line d ys)
 
+-- loops of a level, whose tests are counted, are alike under two bounds where their tests, bodies and what follows these are
+abbrev pub Loops : (F : Family) (At : Place → Place → Type 0) → ℕ → ℕ → ℕ → Type 0
+Loops F At level k k' =
+    (line : ℕ) (f f' : Ending) (u : Step Bool) (v : Step Bool) (m m' : Step Ending) (n n' : Step Ending) → Endings At f f' → Alike F (λ (a b : Bool). a ≡ b) u v → Alike F (Endings At) m n → Alike F (Endings At) m' n'
+    → Alike F (Endings At) (turns k f (within level line count_step >> u) m m') (turns k' f' (within level line count_step >> v) n n')
+
+module _ (F : Family) (At : Place → Place → Type 0) where
+  -- behind the body of a loop
+  pub looped_like : (f f' : Ending) (m : Step Ending) (n : Step Ending) → Endings At f f' → Alike F (Endings At) m n → (a b : Ending) → Endings At a b → Alike F (Endings At) (looped f m a) (looped f' n b)
+  looped_like f f' m n g h (goes_on e) (goes_on e') s = h
+  looped_like f f' m n g h breaks breaks s = alike_pure F (Endings At) f f' g
+  looped_like f f' m n g h continues continues s = h
+  looped_like f f' m n g h (returns v) (returns w) s = alike_pure F (Endings At) (returns v) (returns w) s
+  looped_like f f' m n g h _ _ s = absurd s
+
 -- ---- courses side by side
 
 -- Two runs, with a relation on their states. Their courses go side by side: to results that `P` relates, to the same stop, or to
@@ -219,9 +245,11 @@ module _ (R : State → State → Type 0) (Lax : Stop → Type 0) where
   abbrev pub by_states : Family
   by_states = record {
     Lax = Lax;
+    Meets = Unit {0};
     Like = Sides;
     pures = sides_pure;
-    halts = sides_halt;
+    halts = λ P stop o. sides_halt P stop;
+    meets = λ P m. sides_halt P unbounded;
     laxes = λ P stop n l s t r. ends_lax P stop s (n t) l;
     thens = sides_then;
   }

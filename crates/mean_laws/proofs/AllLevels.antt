@@ -16,11 +16,12 @@ use Rattle.cl_mean.specs.State.{LevelState, silent, State, Fault, Deed, Place, l
 use Rattle.cl_mean.specs.Course.{Stop, meaningless, stops, stop_by, done, within, fetched, stored, made}
 use Rattle.cl_mean.specs.Source.{Binding, Env}
 use Rattle.cl_mean.specs.Judging.{Judged, Acted, patched, act_on, acted_first, passed_by, matches, rules_judge, judge, or_next, laws_judge}
-use Rattle.cl_mean.specs.Guarded.{Content, holds, blocked, broken, Crossing, Guarded, fitted}
+use Rattle.cl_mean.specs.Guarded.{Crossing, fitted}
 pub use Rattle.mean_laws.specs.Alike.{LevelsAll, Contents, Crossing1, Crossings, Between}
 use Rattle.mean_laws.proofs.Alike.{Family, alike_pure, alike_then, by_states, Num, Nums, Same, Any, Ends, Alike, Respects, Envs, MaybeBound}
 use Rattle.mean_laws.proofs.Expressions.{two_same}
 use Rattle.mean_laws.proofs.SameLevel.{Agree, Ended, Deeds, fetch_agrees, store_agrees, make_agrees, get_agrees, put_agrees, count_agrees, begin_agrees, end_agrees, pay_agrees}
+use Rattle.mean_laws.proofs.StepsLeft.{Falls, fetch_falls, store_falls, make_falls, get_falls, put_falls, begin_falls, end_falls, pay_falls, count_falls}
 
 -- ---- levels
 
@@ -58,21 +59,21 @@ pub maybe_refl : (b : Option Binding) → MaybeBound SamePlace b b
 maybe_refl None = tt
 maybe_refl (Some b) = (refl, refl, refl, refl)
 
--- A family that holds of the same deeds of any level respects every level.
-module _ (F : Family) (same : (A C : Type 0) (P : A → C → Type 0) (l line : ℕ) (f : Deed A) (g : Deed C) → Deeds P f g → F.Like P (within l line f) (within l line g)) where
-  deeds : {A C : Type 0} (P : A → C → Type 0) (l line : ℕ) (f : Deed A) (g : Deed C) → Deeds P f g → F.Like P (within l line f) (within l line g)
-  deeds {A} {C} P l line f g h = same A C P l line f g h
+-- A family that holds of the same deeds of any level, where these don't raise the steps left, respects every level.
+module _ (F : Family) (same : (A C : Type 0) (P : A → C → Type 0) (l line : ℕ) (f : Deed A) (g : Deed C) → Falls f → Deeds P f g → F.Like P (within l line f) (within l line g)) where
+  deeds : {A C : Type 0} (P : A → C → Type 0) (l line : ℕ) (f : Deed A) (g : Deed C) → Falls f → Deeds P f g → F.Like P (within l line f) (within l line g)
+  deeds {A} {C} P l line f g w h = same A C P l line f g w h
 
   fetched_same : (p q : Place) → SamePlace p q → F.Like Same (fetched p) (fetched q)
-  fetched_same p q e = subst (λ (z : Place). F.Like Same (fetched p) (fetched z)) e (deeds Same p.level 0 (fetch p.object p.path) (fetch p.object p.path) (fetch_agrees p.object p.path))
+  fetched_same p q e = subst (λ (z : Place). F.Like Same (fetched p) (fetched z)) e (deeds Same p.level 0 (fetch p.object p.path) (fetch p.object p.path) (fetch_falls p.object p.path) (fetch_agrees p.object p.path))
 
   stored_same : (p q : Place) (v w : Value) → SamePlace p q → Same v w → F.Like Any (stored p v) (stored q w)
-  stored_same p q v w e s = subst (λ (z : Place). F.Like Any (stored p v) (stored z w)) e (deeds Any p.level 0 (store p.object p.path v) (store p.object p.path w) (store_agrees p.object p.path v w s))
+  stored_same p q v w e s = subst (λ (z : Place). F.Like Any (stored p v) (stored z w)) e (deeds Any p.level 0 (store p.object p.path v) (store p.object p.path w) (store_falls p.object p.path v) (store_agrees p.object p.path v w s))
 
   made_same : (l : ℕ) (v w : Value) → Same v w → F.Like SamePlace (made l v) (made l w)
   made_same l v w s =
       alike_then F (λ (m n : ℕ). m ≡ n) SamePlace (within l 0 (make (record { own = []; value = v }))) (within l 0 (make (record { own = []; value = w }))) _ _
-      (deeds (λ (m n : ℕ). m ≡ n) l 0 (make (record { own = []; value = v })) (make (record { own = []; value = w })) (make_agrees (record { own = []; value = v }) (record { own = []; value = w }) s))
+      (deeds (λ (m n : ℕ). m ≡ n) l 0 (make (record { own = []; value = v })) (make (record { own = []; value = w })) (make_falls (record { own = []; value = v })) (make_agrees (record { own = []; value = v }) (record { own = []; value = w }) s))
       (λ m n e. alike_pure F SamePlace _ _ (ap (λ (k : ℕ). let p : Place = record { level = l; object = k; path = [] } in p) e))
 
   pub places_respect : (l : ℕ) → Respects F SamePlace l
@@ -81,12 +82,12 @@ module _ (F : Family) (same : (A C : Type 0) (P : A → C → Type 0) (l line : 
     fetches = fetched_same;
     stores = stored_same;
     makes = made_same l;
-    gets = deeds (λ (m n : ℤ). m ≡ n) l 0 get_byte get_byte get_agrees;
-    puts = λ line v w p. deeds Any l line (put_byte v) (put_byte w) (put_agrees v w p);
-    begins = λ line. deeds Any l line begin_call begin_call begin_agrees;
-    ends = deeds Any l 0 end_call end_call end_agrees;
-    pays = λ line cost. deeds Any l line (pay cost) (pay cost) (pay_agrees cost);
-    counts = λ line. deeds Any l line count_step count_step count_agrees;
+    gets = deeds (λ (m n : ℤ). m ≡ n) l 0 get_byte get_byte get_falls get_agrees;
+    puts = λ line v w p. deeds Any l line (put_byte v) (put_byte w) (put_falls v) (put_agrees v w p);
+    begins = λ line. deeds Any l line begin_call begin_call begin_falls begin_agrees;
+    ends = deeds Any l 0 end_call end_call end_falls end_agrees;
+    pays = λ line cost. deeds Any l line (pay cost) (pay cost) (pay_falls cost) (pay_agrees cost);
+    counts = λ line. deeds Any l line count_step count_step count_falls count_agrees;
   }
 
 module _ (Lax : Stop → Type 0) where
@@ -110,7 +111,7 @@ module _ (Lax : Stop → Type 0) where
       either false = inr (refl, r)
 
   pub all_respect : (l : ℕ) → Respects (by_states All Lax) SamePlace l
-  all_respect l = places_respect (by_states All Lax) (λ A C P z line f g h. within_all P z line f g h) l
+  all_respect l = places_respect (by_states All Lax) (λ A C P z line f g w h. within_all P z line f g h) l
 
 -- ---- judging forgets labels
 

@@ -6,11 +6,11 @@ use Rattle.cl_tree.specs.Words.{Word}
 use Rattle.cl_mean.specs.Value.{Labelled}
 use Rattle.cl_mean.specs.State.{State, LevelState, level_in}
 use Rattle.cl_mean.specs.Source.{Definition, Source, function_named}
-use Rattle.cl_mean.specs.Course.{Course, comes, stops, asks, Stop, unbounded, Ask, Reply}
+use Rattle.cl_mean.specs.Course.{Course, comes, stops, asks, Stop, Ask, Reply}
 use Rattle.cl_mean.specs.Execution.{binding_at}
 use Rattle.cl_mean.specs.Calls.{far, call_at, local_call, body_run, served}
 use Rattle.cl_mean.specs.Guarded.{holds, blocked, broken, Guarded, crossed, judging, let_through, judged_by, Outcome, Serves, Goes, replied, answered_by, requested, guarded, serves_at}
-use Rattle.mean_laws.specs.Apart.{OthersStay, Parts, put, Came, ServesApart, GoesApart, replied_apart, answered_apart, requested_apart, apart, apart_at, Outs, EachSame, AsksBelow, AboveStay, CameSame, ServeSame}
+use Rattle.mean_laws.specs.Apart.{Parts, put, Came, ServesApart, GoesApart, replied_apart, answered_apart, requested_apart, apart, apart_at, Outs, EachSame, AsksBelow, AboveStay, CameSame, ServeSame}
 use Rattle.mean_laws.proofs.Alike.{Endings, Nums, Replies, Asks, MaybeBound, MaybeKnown}
 use Rattle.mean_laws.proofs.AllLevels.{JudgedSame, Between}
 use Rattle.mean_laws.proofs.GuardedRuns.{judging_same, let_same, judged_same, crossed_same}

@@ -4,7 +4,7 @@ use Rattle.std.specs.Prelude.{unsigned_abs, bytes_eq, codes}
 use Rattle.cl_tree.specs.declared.kinds.IntKind.{IntKind}
 use Rattle.cl_tree.specs.declared.kinds.IntKind.TheVariants.{I32}
 use Rattle.cl_tree.specs.declared.kinds.UnOp.{UnOp}
-use Rattle.cl_tree.specs.declared.kinds.UnOp.TheVariants.{Minus, Plus, Flip, Not, Star, Amp}
+use Rattle.cl_tree.specs.declared.kinds.UnOp.TheVariants.{Star, Amp}
 use Rattle.cl_tree.specs.declared.kinds.BinOp.{BinOp}
 use Rattle.cl_tree.specs.declared.kinds.BinOp.TheVariants.{Or, And}
 use Rattle.cl_tree.specs.declared.kinds.TrapCause.{TrapCause}
@@ -20,7 +20,7 @@ use Rattle.cl_mean.specs.State.{Place, deeper, get_byte}
 use Rattle.cl_mean.specs.Course.{Stop, traps, meaningless, Step, pure, halted, trapped, lifted, fetched, within, ◌>>=◌}
 use Rattle.cl_mean.specs.Source.{Binding, Env, binding_of, Parameter, Definition, Source, function_named}
 use Rattle.cl_mean.specs.Evaluation.{Spot, given, lent, Calls, Scope, Meaning, computed, read_at, placed, the_spot, spot_of, kind_of, integer_of, as_kind, operand, is_true, applied, working_kind, right_kind, given_kind, decided, logical, worked, binary, senseless, kind_by, worked_one, unary, choice, is_inside, index_of, element_of, member_of, root_spot, variable, variable_of, argument, arguments, call_of, next_byte, call_named, node_meaning, meaning_of}
-use Rattle.mean_laws.proofs.Alike.{Family, Num, Same, each_same, part_same, sole_same, converted_same, Alike, alike_pure, alike_halt, alike_then, alike_if, Respects, Spots, Args1, Args, Bound, MaybeBound, Envs, bound_if, MaybeKnown, CallsAlike}
+use Rattle.mean_laws.proofs.Alike.{Family, IsOwn, Num, Same, each_same, part_same, sole_same, converted_same, Alike, alike_pure, alike_halt, alike_then, alike_if, Respects, Spots, Args1, Args, Bound, MaybeBound, Envs, bound_if, MaybeKnown, CallsAlike}
 use Rattle.mean_laws.proofs.Induction.{Each, Parts, expr_induction, meant, meaning_is}
 
 pub two_same : {A B C : Type 0} (f : A → B → C) (a a' : A) (b b' : B) → a ≡ a' → b ≡ b' → f a b ≡ f a' b'
@@ -46,10 +46,10 @@ module _ (F : Family) (At : Place → Place → Type 0) (source : Source) (Known
   if_like P b d m m' n n' e h k = subst (λ (z : Bool). Like P (if b then m else m') (if z then n else n')) e (alike_if F P b m m' n n' h k)
 
   pub trap_like : {A B : Type 0} (P : A → B → Type 0) (cause : TrapCause) (line : ℕ) → Like P (trapped here.level cause line) (trapped here.level cause line)
-  trap_like P cause line = alike_halt F P (traps here.level (record { cause = cause; line = line }))
+  trap_like P cause line = alike_halt F P (traps here.level (record { cause = cause; line = line })) tt
 
-  pub halt_like : {A B : Type 0} (P : A → B → Type 0) (stop : Stop) → Like P (halted stop) (halted stop)
-  halt_like P stop = alike_halt F P stop
+  pub halt_like : {A B : Type 0} (P : A → B → Type 0) (stop : Stop) → IsOwn stop → Like P (halted stop) (halted stop)
+  halt_like P stop o = alike_halt F P stop o
 
   -- ---- what expressions mean
 
@@ -127,7 +127,7 @@ module _ (F : Family) (At : Place → Place → Type 0) (source : Source) (Known
   binary_like op line a b a' b' h k = worked_like op line a b a' b' h k
 
   senseless_like : Means senseless senseless
-  senseless_like = computed_like I32 I32 (halted meaningless) (halted meaningless) refl (halt_like Num meaningless)
+  senseless_like = computed_like I32 I32 (halted meaningless) (halted meaningless) refl (halt_like Num meaningless tt)
 
   worked_one_like : (op : UnOp) (line : ℕ) (a : Meaning) (a' : Meaning) → Means a a' → Means (worked_one here.level op line a) (worked_one here.level op line a')
   worked_one_like op line a a' h =
@@ -161,7 +161,7 @@ module _ (F : Family) (At : Place → Place → Type 0) (source : Source) (Known
   placed_like k k' m n e h = (e, h, then_like (Spots At) Same m n read_at read_at h read_like)
 
   the_spot_like : (m : Option (Step Spot)) (n : Option (Step Spot)) → SpotsAlike m n → Like (Spots At) (the_spot m) (the_spot n)
-  the_spot_like None None h = halt_like (Spots At) meaningless
+  the_spot_like None None h = halt_like (Spots At) meaningless tt
   the_spot_like None (Some n) h = absurd h
   the_spot_like (Some m) None h = absurd h
   the_spot_like (Some m) (Some n) h = h
@@ -234,8 +234,8 @@ module _ (F : Family) (At : Place → Place → Type 0) (source : Source) (Known
   arguments_like [] [] [] h = pure_like (Args At) [] [] tt
   arguments_like [] [] (n ∷ ns) h = absurd h
   arguments_like [] (m ∷ ms) [] h = absurd h
-  arguments_like [] (m ∷ ms) (n ∷ ns) h = halt_like (Args At) meaningless
-  arguments_like (p ∷ ps) [] [] h = halt_like (Args At) meaningless
+  arguments_like [] (m ∷ ms) (n ∷ ns) h = halt_like (Args At) meaningless tt
+  arguments_like (p ∷ ps) [] [] h = halt_like (Args At) meaningless tt
   arguments_like (p ∷ ps) [] (n ∷ ns) h = absurd h
   arguments_like (p ∷ ps) (m ∷ ms) [] h = absurd h
   arguments_like (p ∷ ps) (m ∷ ms) (n ∷ ns) h =

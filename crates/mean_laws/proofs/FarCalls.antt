@@ -103,8 +103,8 @@ module _ (F : Family) (At : Place → Place → Type 0) (source : Source) (level
   arrays_like [] [] [] h as' bs n = alike_pure F _ _ _ (tt)
   arrays_like [] [] (b ∷ ys) h as' bs n = absurd h
   arrays_like [] (a ∷ xs) [] h as' bs n = absurd h
-  arrays_like [] (a ∷ xs) (b ∷ ys) h as' bs n = alike_halt F Any meaningless
-  arrays_like (p ∷ ps) [] [] h as' bs n = alike_halt F Any meaningless
+  arrays_like [] (a ∷ xs) (b ∷ ys) h as' bs n = alike_halt F Any meaningless tt
+  arrays_like (p ∷ ps) [] [] h as' bs n = alike_halt F Any meaningless tt
   arrays_like (p ∷ ps) [] (b ∷ ys) h as' bs n = absurd h
   arrays_like (p ∷ ps) (a ∷ xs) [] h as' bs n = absurd h
   arrays_like (p ∷ ps) (given v ∷ xs) (given w ∷ ys) h as' bs n = arrays_like ps xs ys h.1 as' bs n
@@ -132,7 +132,7 @@ module _ (F : Family) (At : Place → Place → Type 0) (source : Source) (level
       (went_like d xs ys h))
 
   row_like : (o : Option ℕ) (f g : ℕ → Step Value) → ((row : ℕ) → Like Same (f row) (g row)) → Like Same (by_row o f) (by_row o g)
-  row_like None f g h = alike_halt F Same meaningless
+  row_like None f g h = alike_halt F Same meaningless tt
   row_like (Some row) f g h = h row
 
   -- A far call from the level, whatever the callee's local call is: it isn't looked at.
@@ -157,7 +157,7 @@ module _ (F : Family) (At : Place → Place → Type 0) (source : Source) (level
       then_like (Args1 At) (Args At) (fresh level p.shape (taken p.shape xs).0) (fresh level p.shape (taken p.shape ys).0) _ _ (fresh_like p.shape _ _ q.0) (λ a b h.
       then_like (Args At) (Args At) (all_fresh level ps (taken p.shape xs).1) (all_fresh level ps (taken p.shape ys).1) _ _ (all_fresh_like ps _ _ q.1) (λ as' bs k. alike_pure F _ _ _ ((h, k))))
 
-  array_values_like : (xs ys : List Argument) → Args At xs ys → Like Nums (array_values xs) (array_values ys)
+  pub array_values_like : (xs ys : List Argument) → Args At xs ys → Like Nums (array_values xs) (array_values ys)
   array_values_like [] [] h = alike_pure F _ _ _ (tt)
   array_values_like [] (b ∷ ys) h = absurd h
   array_values_like (a ∷ xs) [] h = absurd h

@@ -135,13 +135,13 @@ module _ (Lax : Stop → Type 0) where
   module _ (source : Source) where
     pub calls_all : (n n' : ℕ) → Bounds Lax n n' → (here : Definition) → CallsAlike (by_states LevelsAll Lax) SamePlace All_known here (call_at source (far source) n) (call_at source (far source) n')
     calls_all n n' b here =
-        LevelCalls.calls_alike (by_states LevelsAll Lax) SamePlace source All_known (λ name. all_known (function_named source.functions name)) (λ z. Unit {0}) (λ l e. all_respect Lax l) (λ l e. envs_refl (known_at source l)) (λ d kd e k. maybe_refl (binding_at d.statics k)) (far source) (far source)
+        LevelCalls.calls_alike (by_states LevelsAll Lax) SamePlace source All_known (λ name. all_known (function_named source.functions name)) (λ z. Unit {0}) (λ l e. all_respect Lax l) (λ l e. envs_refl (known_at source l)) (λ d kd e k. maybe_refl (binding_at d.statics k)) tt (far source) (far source)
         (λ m m' bb hs f line d kd xs ys e h. FarCalls.far_like (by_states LevelsAll Lax) SamePlace source f.level (all_respect Lax f.level) (sides_ask LevelsAll Lax) (local_call source m (call_at source (far source) m)) (local_call source m' (call_at source (far source) m')) f line d xs ys refl h)
         n n' b here tt
 
     local_all : (n n' : ℕ) → Bounds Lax n n' → (d : Definition) (xs ys : List Argument) → Args SamePlace xs ys → (s t : State) → LevelsAll s t → Ends LevelsAll Lax Same (local_call source n (call_at source (far source) n) d xs s) (local_call source n' (call_at source (far source) n') d ys t)
     local_all n n' b d xs ys h =
-        LevelCalls.local_like (by_states LevelsAll Lax) SamePlace source All_known (λ name. all_known (function_named source.functions name)) (λ z. Unit {0}) (λ l e. all_respect Lax l) (λ l e. envs_refl (known_at source l)) (λ f kf e k. maybe_refl (binding_at f.statics k)) n n' b (call_at source (far source) n) (call_at source (far source) n') d tt tt (calls_all n n' b d) xs ys h
+        LevelCalls.local_like (by_states LevelsAll Lax) SamePlace source All_known (λ name. all_known (function_named source.functions name)) (λ z. Unit {0}) (λ l e. all_respect Lax l) (λ l e. envs_refl (known_at source l)) (λ f kf e k. maybe_refl (binding_at f.statics k)) tt n n' b (call_at source (far source) n) (call_at source (far source) n') d tt tt (calls_all n n' b d) xs ys h
 
     pub serves_alike : (n n' : ℕ) → Bounds Lax n n' → (m m' : ℕ) → Bounds Lax m m' → ServesAlike (serves_at source n m) (serves_at source n' m')
     unfolding serves_at
@@ -156,7 +156,7 @@ module _ (Lax : Stop → Type 0) where
     -- `main` by far calls: two courses of it go side by side
     pub main_alike : (n n' : ℕ) → Bounds Lax n n' → (d : Definition) → (s t : State) → LevelsAll s t → Ends LevelsAll Lax (Endings SamePlace) (body_run source n (call_at source (far source) n) d [] s) (body_run source n' (call_at source (far source) n') d [] t)
     main_alike n n' b d =
-        LevelCalls.body_like (by_states LevelsAll Lax) SamePlace source All_known (λ name. all_known (function_named source.functions name)) (λ z. Unit {0}) (λ l e. all_respect Lax l) (λ l e. envs_refl (known_at source l)) (λ f kf e k. maybe_refl (binding_at f.statics k)) n n' b (call_at source (far source) n) (call_at source (far source) n') d tt tt (calls_all n n' b d) [] [] tt
+        LevelCalls.body_like (by_states LevelsAll Lax) SamePlace source All_known (λ name. all_known (function_named source.functions name)) (λ z. Unit {0}) (λ l e. all_respect Lax l) (λ l e. envs_refl (known_at source l)) (λ f kf e k. maybe_refl (binding_at f.statics k)) tt n n' b (call_at source (far source) n) (call_at source (far source) n') d tt tt (calls_all n n' b d) [] [] tt
 
     -- So the guarded runs of `main` under a bound and under a higher one, from states that are the same but for labels, with the same
     -- laws, have the same crossings, numbers, outputs and end, but where the first is stopped by its own bound.

@@ -4,7 +4,7 @@ use mathlib.Core.Path.{fun_ext}
 use Rattle.cl_mean.specs.Value.{Labelled}
 use Rattle.cl_mean.specs.State.{State}
 use Rattle.cl_mean.specs.Course.{Course, comes, stops, asks, Stop, Ask, Step, goes_to}
-use Rattle.mean_laws.specs.Runs.{on_result, then_run}
+use Rattle.mean_laws.specs.Runs.{then_run}
 use Rattle.cl_mean.specs.Guarded.{Guarded, Outcome, Serves, Goes, judging, judged_by, let_through, replied, answered_by, requested, guarded}
 
 module _ {A B : Type 0} (k : A → State → Guarded → Outcome B) where

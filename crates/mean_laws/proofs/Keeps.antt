@@ -6,7 +6,7 @@ use Rattle.cl_tree.specs.Words.{Word}
 use Rattle.cl_mean.specs.Value.{Labelled}
 use Rattle.cl_mean.specs.State.{LevelState, silent, State, Fault, Deed, level_in, with_level}
 use Rattle.cl_mean.specs.Source.{Definition, Source, known_at, function_named}
-use Rattle.cl_mean.specs.Course.{Course, comes, stops, asks, Stop, meaningless, stop_by, Ask, Reply, Step, goes_to, asked, done, within}
+use Rattle.cl_mean.specs.Course.{Course, comes, stops, asks, Stop, meaningless, stop_by, Ask, Step, goes_to, asked, done, within}
 use Rattle.cl_mean.specs.Evaluation.{Argument}
 use Rattle.cl_mean.specs.Execution.{binding_at}
 use Rattle.cl_mean.specs.Calls.{far, call_at, local_call, body_run, served}
@@ -62,9 +62,11 @@ module _ (L : ℕ) where
   abbrev pub keeping : Family
   keeping = record {
     Lax = No;
+    Meets = Unit {0};
     Like = Keep;
     pures = λ P a b p s t r. (p, still_here s t r);
-    halts = λ P stop s t r. (refl, still_here s t r);
+    halts = λ P stop o s t r. (refl, still_here s t r);
+    meets = λ P m s t r. (refl, still_here s t r);
     laxes = λ P stop n l. absurd l;
     thens = λ P Q m n f g hm hf s t r. kept_then P Q s t (m s) (n t) f g (hm s t r) hf;
   }
@@ -97,17 +99,17 @@ module _ (L : ℕ) where
 
     calls_keep : (n : ℕ) (here : Definition) → here.level ≡ L → CallsAlike keeping (One L) Known here (call_at source (far source) n) (call_at source (far source) n)
     calls_keep n here l =
-        LevelCalls.calls_alike keeping (One L) source Known named (λ z. z ≡ L) respects_at knows_at statics (far source) (far source)
+        LevelCalls.calls_alike keeping (One L) source Known named (λ z. z ≡ L) respects_at knows_at statics tt (far source) (far source)
         (λ k k' bb hs f line d kn xs ys e h. FarCalls.far_like keeping (One L) source L keeping_respects keeping_asks (local_call source k (call_at source (far source) k)) (local_call source k' (call_at source (far source) k')) f line d xs ys e h)
         n n (bound_same No n) here l
 
     -- the body of a function of the level
     pub body_keeps : (n : ℕ) (d : Definition) → Known d → d.level ≡ L → (xs ys : List Argument) → Args (One L) xs ys → Keep (Endings (One L)) (body_run source n (call_at source (far source) n) d xs) (body_run source n (call_at source (far source) n) d ys)
     body_keeps n d kn l xs ys h =
-        LevelCalls.body_like keeping (One L) source Known named (λ z. z ≡ L) respects_at knows_at statics n n (bound_same No n) (call_at source (far source) n) (call_at source (far source) n) d kn l (calls_keep n d l) xs ys h
+        LevelCalls.body_like keeping (One L) source Known named (λ z. z ≡ L) respects_at knows_at statics tt n n (bound_same No n) (call_at source (far source) n) (call_at source (far source) n) d kn l (calls_keep n d l) xs ys h
 
     -- the level serves a request
     pub serving_keeps : (n : ℕ) (d : Definition) → Known d → d.level ≡ L → (xs ys : List Labelled) → Nums xs ys → Keep Nums (served (local_call source n (call_at source (far source) n)) d xs) (served (local_call source n (call_at source (far source) n)) d ys)
     serving_keeps n d kn l xs ys h =
         FarCalls.served_like keeping (One L) source L keeping_respects keeping_asks (local_call source n (call_at source (far source) n)) (local_call source n (call_at source (far source) n)) d l
-        (λ us vs k. LevelCalls.local_like keeping (One L) source Known named (λ z. z ≡ L) respects_at knows_at statics n n (bound_same No n) (call_at source (far source) n) (call_at source (far source) n) d kn l (calls_keep n d l) us vs k) xs ys h
+        (λ us vs k. LevelCalls.local_like keeping (One L) source Known named (λ z. z ≡ L) respects_at knows_at statics tt n n (bound_same No n) (call_at source (far source) n) (call_at source (far source) n) d kn l (calls_keep n d l) us vs k) xs ys h

@@ -10,6 +10,7 @@ pub mod SameLevel
 pub mod FarCalls
 pub mod Locality
 pub mod LocalAlike
+pub mod StepsLeft
 pub mod AllLevels
 pub mod GuardedRuns
 pub mod GuardedThen
@@ -20,3 +21,6 @@ pub mod Apart
 pub mod Reading
 pub mod Placed
 pub mod WholeRuns
+pub mod Counting
+pub mod Bound
+pub mod LocalBound

@@ -17,7 +17,7 @@ use Rattle.cl_mean.specs.Meaning.{exit_of, end_by, exit_value, bound_of, main_ru
 use Rattle.cl_mean.specs.Journal.{Frame, frame, Said, says_stop, message, numbers_of}
 use Rattle.cl_mean.specs.LocalRun.{all_fit, is_content, is_turn, Role, running, serving, Stand, rests, waits, over, Local, stays, with_none_active, rested, ended, left, closes, exits, met, stand_of, said_of, ends_of, follows, row_at, served_by, serving_of, begins, answered, acts, acted, acted_all, began_in, state_at, output_at}
 use Rattle.mean_laws.specs.Runs.{Never, SameStand, SameLocal}
-use Rattle.mean_laws.proofs.Alike.{Num, Nums, Replies, Asks, Ends, ends_then, Endings, sole_same, bound_same, MaybeBound, MaybeKnown}
+use Rattle.mean_laws.proofs.Alike.{Nums, Replies, Ends, ends_then, Endings, sole_same, bound_same, MaybeBound, MaybeKnown}
 use Rattle.mean_laws.proofs.Expressions.{two_same}
 use Rattle.mean_laws.proofs.Statements.{BytesAll}
 use Rattle.mean_laws.proofs.FarCalls.{nums_refl}

@@ -3,7 +3,7 @@ use Rattle.std.proofs.Common.{◌≡◌, ℕ, List, [], ◌∷◌, ◌++◌, ref
 use Rattle.cl_mean.specs.declared.checked.Checked.{Checked}
 use Rattle.cl_mean.specs.State.{State}
 use Rattle.cl_mean.specs.Source.{Source, source_of}
-use Rattle.cl_mean.specs.Journal.{Frame, Said, says_stop, message}
+use Rattle.cl_mean.specs.Journal.{Frame, Said}
 use Rattle.cl_mean.specs.LocalRun.{is_turn, Stand, over, Local, stays, acts, acted, acted_all, began, local}
 use Rattle.mean_laws.specs.Runs.{IsOver}
 use Rattle.cl_mean.specs.Meaning.{bound_of}

@@ -32,13 +32,13 @@ module _ (Lax : Stop → Type 0) (source : Source) (L : ℕ) (Known : Definition
   -- What a call does that is made at the level.
   pub calls_local : (n n' : ℕ) → Bounds Lax n n' → (here : Definition) → here.level ≡ L → CallsAlike (by_states (AtLevel L) Lax) (One L) Known here (call_at source (far source) n) (call_at source (far source) n')
   calls_local n n' b here l =
-      LevelCalls.calls_alike (by_states (AtLevel L) Lax) (One L) source Known named (λ z. z ≡ L) respects_at knows_at statics (far source) (far source)
+      LevelCalls.calls_alike (by_states (AtLevel L) Lax) (One L) source Known named (λ z. z ≡ L) respects_at knows_at statics tt (far source) (far source)
       (λ m m' bb hs f line d kn xs ys e h. FarCalls.far_like (by_states (AtLevel L) Lax) (One L) source L (level_respects Lax L) (sides_ask (AtLevel L) Lax) (local_call source m (call_at source (far source) m)) (local_call source m' (call_at source (far source) m')) f line d xs ys e h)
       n n' b here l
 
   pub local_call_local : (n n' : ℕ) → Bounds Lax n n' → (d : Definition) → Known d → d.level ≡ L → (xs ys : List Argument) → Args (One L) xs ys → Like Same (local_call source n (call_at source (far source) n) d xs) (local_call source n' (call_at source (far source) n') d ys)
   local_call_local n n' b d kn l xs ys h =
-      LevelCalls.local_like (by_states (AtLevel L) Lax) (One L) source Known named (λ z. z ≡ L) respects_at knows_at statics n n' b (call_at source (far source) n) (call_at source (far source) n') d kn l (calls_local n n' b d l) xs ys h
+      LevelCalls.local_like (by_states (AtLevel L) Lax) (One L) source Known named (λ z. z ≡ L) respects_at knows_at statics tt n n' b (call_at source (far source) n) (call_at source (far source) n') d kn l (calls_local n n' b d l) xs ys h
 
   -- The level serves a request.
   pub serving_local : (n n' : ℕ) → Bounds Lax n n' → (d : Definition) → Known d → d.level ≡ L → (xs ys : List Labelled) → Nums xs ys
@@ -50,4 +50,4 @@ module _ (Lax : Stop → Type 0) (source : Source) (L : ℕ) (Known : Definition
   pub body_local : (n n' : ℕ) → Bounds Lax n n' → (d : Definition) → Known d → d.level ≡ L → (xs ys : List Argument) → Args (One L) xs ys
       → Like (Endings (One L)) (body_run source n (call_at source (far source) n) d xs) (body_run source n' (call_at source (far source) n') d ys)
   body_local n n' b d kn l xs ys h =
-      LevelCalls.body_like (by_states (AtLevel L) Lax) (One L) source Known named (λ z. z ≡ L) respects_at knows_at statics n n' b (call_at source (far source) n) (call_at source (far source) n') d kn l (calls_local n n' b d l) xs ys h
+      LevelCalls.body_like (by_states (AtLevel L) Lax) (One L) source Known named (λ z. z ≡ L) respects_at knows_at statics tt n n' b (call_at source (far source) n) (call_at source (far source) n') d kn l (calls_local n n' b d l) xs ys h

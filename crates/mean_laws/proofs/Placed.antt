@@ -1,5 +1,5 @@
 -- A level's own run in a source whose functions and static locals lie at their levels.
-use Rattle.std.proofs.Common.{◌≡◌, ℕ, List, refl, sym, ◌∙◌, Bool, true, false, ◌==◌, if◌then◌else◌, Option, Some, None, inl, inr}
+use Rattle.std.proofs.Common.{◌≡◌, ℕ, List, refl, ◌∙◌, Bool, true, false, ◌==◌, if◌then◌else◌, Option, Some, None, inl, inr}
 use Rattle.std.proofs.lemmas.Option.{none-some}
 use Rattle.cl_tree.specs.Words.{Word}
 use Rattle.cl_mean.specs.declared.checked.Checked.{Checked}

@@ -4,7 +4,7 @@ use Rattle.std.specs.Prelude.{nat_lt}
 use Rattle.cl_mean.specs.declared.checked.Checked.{Checked}
 use Rattle.cl_mean.specs.State.{Object, Written, LevelState, State, Fault, Deed, level_in}
 use Rattle.cl_mean.specs.Source.{Definition, Source, source_of, main_of, known_at, function_named}
-use Rattle.cl_mean.specs.Course.{Course, comes, stops, asks, Stop, meaningless, stop_by, Step, goes_to, done, within}
+use Rattle.cl_mean.specs.Course.{Course, comes, stops, meaningless, stop_by, Step, goes_to, done, within}
 use Rattle.cl_mean.specs.Evaluation.{Argument}
 use Rattle.cl_mean.specs.Execution.{Ending, goes_on, breaks, continues, returns, binding_at}
 use Rattle.cl_mean.specs.Calls.{Serving, paid, cost_of, unguarded, call_at, local_call, body_run}
@@ -12,9 +12,9 @@ use Rattle.cl_mean.specs.Meaning.{start_of, bound_of, exit_value, main_run, main
 use Rattle.cl_mean.specs.Value.{Labelled}
 use Rattle.mean_laws.specs.Alike.{SideBySide}
 use Rattle.mean_laws.specs.Runs.{Never, NeverAsks}
-use Rattle.mean_laws.proofs.Alike.{Family, alike_then, Same, same_refl, sole_same, Nums, Any, Respects, bound_same, Args, Endings, All_known, all_known, CallsAlike}
+use Rattle.mean_laws.proofs.Alike.{Family, alike_then, Same, same_refl, sole_same, Nums, Any, Respects, Bounds, bound_same, Args, Endings, All_known, all_known, CallsAlike}
 use Rattle.mean_laws.proofs.Statements.{BytesAll}
-use Rattle.mean_laws.proofs.SameLevel.{Objects, Ended, Deeds}
+use Rattle.mean_laws.proofs.SameLevel.{Agree, Objects, Ended, Deeds}
 use Rattle.mean_laws.proofs.AllLevels.{LevelsAll, length_all, at_all, set_all, SamePlace, envs_refl, maybe_refl, places_respect}
 use Rattle.mean_laws.proofs.LevelCalls
 
@@ -36,9 +36,11 @@ still_then P Q _ _ f g e h = absurd e
 abbrev pub still : Family
 still = record {
   Lax = Never;
+  Meets = Unit {0};
   Like = Quiet;
   pures = λ P a b p s t r. (p, r);
-  halts = λ P stop s t r. (refl, r);
+  halts = λ P stop o s t r. (refl, r);
+  meets = λ P m s t r. (refl, r);
   laxes = λ P stop n l. absurd l;
   thens = λ P Q m n f g hm hf s t r. still_then P Q (m s) (n t) f g (hm s t r) hf;
 }
@@ -59,30 +61,31 @@ within_still {A} {C} P l line f g h s t r =
     either true = done_still P l line s t (f (level_in s l)) (g (level_in t l)) r (h (level_in s l) (level_in t l) (at_all l s t r))
     either false = (refl, r)
 
-respects : (l : ℕ) → Respects still SamePlace l
-respects l = places_respect still (λ A C P z line f g h. within_still P z line f g h) l
+still_respects : (l : ℕ) → Respects still SamePlace l
+still_respects l = places_respect still (λ A C P z line f g w h. within_still P z line f g h) l
 
 -- ---- plain calls
 
-module _ (source : Source) where
-  unguarded_like : (call call' : Serving) → ((d : Definition) (xs ys : List Argument) → Args SamePlace xs ys → Quiet Same (call d xs) (call' d ys)) → (here : Definition) (line : ℕ) (d : Definition) (xs ys : List Argument) → Args SamePlace xs ys
-      → Quiet Same (unguarded source call here line d xs) (unguarded source call' here line d ys)
+module _ (F : Family) (respects : (l : ℕ) → Respects F SamePlace l) (source : Source) where
+  pub unguarded_like : (call call' : Serving) → ((d : Definition) (xs ys : List Argument) → Args SamePlace xs ys → F.Like Same (call d xs) (call' d ys)) → (here : Definition) (line : ℕ) (d : Definition) (xs ys : List Argument) → Args SamePlace xs ys
+      → F.Like Same (unguarded source call here line d xs) (unguarded source call' here line d ys)
   unfolding unguarded
   unguarded_like call call' hc here line d xs ys h =
-      alike_then still Any Same (paid here.level line d) (paid here.level line d) (λ _. call d xs) (λ _. call' d ys)
+      alike_then F Any Same (paid here.level line d) (paid here.level line d) (λ _. call d xs) (λ _. call' d ys)
       ((respects here.level).pays line (cost_of d)) (λ a b p. hc d xs ys h)
 
-  pub calls_still : (n : ℕ) (here : Definition) → CallsAlike still SamePlace All_known here (call_at source (unguarded source) n) (call_at source (unguarded source) n)
-  calls_still n here =
-      LevelCalls.calls_alike still SamePlace source All_known (λ name. all_known (function_named source.functions name)) (λ z. Unit {0}) (λ l e. respects l) (λ l e. envs_refl (known_at source l)) (λ d kd e k. maybe_refl (binding_at d.statics k)) (unguarded source) (unguarded source)
-      (λ m m' bb hs f line d kd xs ys e h. unguarded_like (local_call source m (call_at source (unguarded source) m)) (local_call source m' (call_at source (unguarded source) m')) (λ z us vs k. hs z tt tt us vs k) f line d xs ys h)
-      n n (bound_same Never n) here tt
+  module _ (meet : F.Meets) where
+    calls_plain : (n n' : ℕ) → Bounds F.Lax n n' → (here : Definition) → CallsAlike F SamePlace All_known here (call_at source (unguarded source) n) (call_at source (unguarded source) n')
+    calls_plain n n' b here =
+        LevelCalls.calls_alike F SamePlace source All_known (λ name. all_known (function_named source.functions name)) (λ z. Unit {0}) (λ l e. respects l) (λ l e. envs_refl (known_at source l)) (λ d kd e k. maybe_refl (binding_at d.statics k)) meet (unguarded source) (unguarded source)
+        (λ m m' bb hs f line d kd xs ys e h. unguarded_like (local_call source m (call_at source (unguarded source) m)) (local_call source m' (call_at source (unguarded source) m')) (λ z us vs k. hs z tt tt us vs k) f line d xs ys h)
+        n n' b here tt
 
-  -- Plain runs of a function from states that are the same but for labels end, and end the same.
-  pub body_still : (n : ℕ) (d : Definition) → Quiet (Endings SamePlace) (body_run source n (call_at source (unguarded source) n) d []) (body_run source n (call_at source (unguarded source) n) d [])
-  body_still n d =
-      LevelCalls.body_like still SamePlace source All_known (λ name. all_known (function_named source.functions name)) (λ z. Unit {0}) (λ l e. respects l) (λ l e. envs_refl (known_at source l)) (λ f kf e k. maybe_refl (binding_at f.statics k)) n n (bound_same Never n)
-      (call_at source (unguarded source) n) (call_at source (unguarded source) n) d tt tt (calls_still n d) [] [] tt
+    -- plain runs of a function under two bounds
+    pub body_plain : (n n' : ℕ) → Bounds F.Lax n n' → (d : Definition) → F.Like (Endings SamePlace) (body_run source n (call_at source (unguarded source) n) d []) (body_run source n' (call_at source (unguarded source) n') d [])
+    body_plain n n' b d =
+        LevelCalls.body_like F SamePlace source All_known (λ name. all_known (function_named source.functions name)) (λ z. Unit {0}) (λ l e. respects l) (λ l e. envs_refl (known_at source l)) (λ f kf e k. maybe_refl (binding_at f.statics k)) meet n n' b
+        (call_at source (unguarded source) n) (call_at source (unguarded source) n') d tt tt (calls_plain n n' b d) [] [] tt
 
 -- ---- so the plain meaning never asks
 
@@ -94,9 +97,12 @@ bytes_refl : (ws : List Written) → BytesAll ws ws
 bytes_refl [] = tt
 bytes_refl (w ∷ ws) = (refl, bytes_refl ws)
 
+pub level_refl : (l : LevelState) → Agree l l
+level_refl l = record { objects = objects_refl l.objects; input = refl; output = bytes_refl l.output; steps_left = refl; active = refl; cost = refl }
+
 pub levels_refl : (s : State) → LevelsAll s s
 levels_refl [] = tt
-levels_refl (l ∷ ls) = (record { objects = objects_refl l.objects; input = refl; output = bytes_refl l.output; steps_left = refl; active = refl; cost = refl }, levels_refl ls)
+levels_refl (l ∷ ls) = (level_refl l, levels_refl ls)
 
 still_never : {A B : Type 0} (P : A → B → Type 0) (x : Course A) (y : Course B) → Still P x y → NeverAsks x
 still_never P (comes a s) (comes b t) e = tt
@@ -112,7 +118,7 @@ exit_still _ _ h s t r = absurd h
 
 main_still : (source : Source) (n : ℕ) (o : Option Definition) → Quiet Nums (main_run source (unguarded source) n o) (main_run source (unguarded source) n o)
 main_still source n None s t r = (refl, r)
-main_still source n (Some d) s t r = still_then (Endings SamePlace) Nums _ _ exit_value exit_value (body_still source n d s t r) exit_still
+main_still source n (Some d) s t r = still_then (Endings SamePlace) Nums _ _ exit_value exit_value (body_plain still still_respects source tt n n (bound_same Never n) d s t r) exit_still
 
 pub plain_never_asks : (checked : Checked) (inputs : List (List ℕ)) (steps : ℕ) → NeverAsks (plain_run checked inputs steps)
 unfolding plain_run main_step

@@ -1,5 +1,5 @@
 -- Bytes that are read as a frame are just its bytes.
-use Rattle.std.proofs.Common.{◌≡◌, ℕ, List, refl, sym, subst, ap, Bool, true, false, if◌then◌else◌, Option, Some, None, bytes_eq}
+use Rattle.std.proofs.Common.{◌≡◌, ℕ, List, refl, subst, Bool, true, false, if◌then◌else◌, Some, None, bytes_eq}
 use Rattle.std.proofs.lemmas.Option.{none-some, same_Some}
 use Rattle.std.proofs.lemmas.Slice.Eq.{bytes_eq-Decides}
 use Rattle.cl_mean.specs.Source.{Source}

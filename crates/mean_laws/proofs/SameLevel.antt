@@ -8,7 +8,7 @@ use Rattle.cl_base.specs.declared.limits.TheConstants.{OUTPUT_BYTES, ACTIVE_CALL
 use Rattle.cl_tree.specs.declared.kinds.TrapCause.TheVariants.{Steps, Depth, Output, Frames}
 use Rattle.cl_mean.specs.Value.{Value, Values, number, parts, no_more, ◌then◌, carries_too, part, with_part, with_nth, at_path, with_path}
 use Rattle.cl_mean.specs.State.{Object, no_object, Written, LevelState, silent, State, Place, Fault, trap, no_such_object, Deed, level_in, with_level, object_in, fetch, store, make, put_byte, next_of, get_byte, count_step, begin_call, end_call, pay, deeper}
-use Rattle.cl_mean.specs.Course.{Stop, meaningless, Course, stops, stop_by, done, within, fetched, stored, made}
+use Rattle.cl_mean.specs.Course.{Stop, meaningless, stops, stop_by, done, within, fetched, stored, made}
 pub use Rattle.mean_laws.specs.Alike.{Objects, Agree, AtLevel}
 use Rattle.mean_laws.proofs.Alike.{Family, alike_pure, alike_then, by_states, Same, each_same, part_same, SameAll, Any, Ends, Alike, Respects, Envs}
 use Rattle.mean_laws.proofs.Statements.{Bytes1, BytesAll}

@@ -21,13 +21,13 @@ use Rattle.cl_mean.specs.declared.form.Form.{Form}
 use Rattle.cl_mean.specs.Value.{Labelled, bare, Value, number, no_value, each, sole}
 use Rattle.cl_mean.specs.Shape.{Shape, part_in, shape_of, zero_of, converted}
 use Rattle.cl_mean.specs.State.{Place, Written, deeper, put_byte, count_step}
-use Rattle.cl_mean.specs.Course.{Stop, unbounded, meaningless, Step, pure, halted, fetched, stored, made, within, ◌>>=◌, ◌>>◌}
+use Rattle.cl_mean.specs.Course.{unbounded, meaningless, Step, pure, fetched, stored, made, within, ◌>>=◌, ◌>>◌}
 use Rattle.cl_mean.specs.Source.{Binding, Env, Definition, is_annotated, Source, function_named}
 use Rattle.cl_mean.specs.Evaluation.{Spot, Calls, Scope, Meaning, spot_of, kind_of, integer_of, as_kind, operand, is_true, applied, working_kind, right_kind, meaning_of}
 use Rattle.cl_mean.specs.Printing.{Piece, byte, form, conversions, pieces_of, form_text, byte_for, form_bytes, printed}
-use Rattle.cl_mean.specs.Execution.{Ending, goes_on, breaks, continues, returns, then_next, closed, scoped, Doing, next_static, in_turn, if_there, relabelled, put, assigned, updated, one, set_by, Filling, fill_parts, init_fills, fills, filled, local_binding, declared, binding_at, with_static, with_statics, declaration, put_bytes, put_format, integers, low_byte, text_of, printing, putting, call_done, tested, test_of, looped, turns, returned, act_run, act_doing, doing_of}
+use Rattle.cl_mean.specs.Execution.{Ending, goes_on, breaks, continues, returns, then_next, closed, scoped, Doing, next_static, in_turn, if_there, relabelled, put, assigned, updated, one, set_by, Filling, fill_parts, init_fills, fills, filled, local_binding, declared, binding_at, with_static, with_statics, declaration, put_bytes, put_format, integers, low_byte, text_of, printing, putting, call_done, tested, turns, returned, act_run, act_doing, doing_of}
 pub use Rattle.mean_laws.specs.Alike.{Bytes1, BytesAll}
-use Rattle.mean_laws.proofs.Alike.{Family, alike_pure, Num, Nums, Same, same_refl, each_same, sole_same, converted_same, Any, Alike, alike_halt, alike_lax, Respects, Bounds, less, Spots, MaybeBound, Envs, Endings, MaybeKnown, CallsAlike}
+use Rattle.mean_laws.proofs.Alike.{Family, alike_pure, Num, Nums, Same, same_refl, each_same, sole_same, converted_same, Any, Alike, alike_halt, alike_lax, alike_meet, Respects, Bounds, less, Loops, looped_like, Spots, MaybeBound, Envs, Endings, MaybeKnown, CallsAlike}
 use Rattle.mean_laws.proofs.Induction.{Each, InitParts, init_induction, filling, fills_is, StmtParts, stmt_induction, done_in, doing_is}
 use Rattle.mean_laws.proofs.Expressions
 
@@ -186,7 +186,7 @@ module _ (F : Family) (At : Place → Place → Type 0) (source : Source) (Known
       subst (λ (f : Filling). Fills f (fills sy e' i)) (sym (fills_is sx e i))
       (subst (λ (f : Filling). Fills (init_fills sx e (filling sx e (out-Init i))) f) (sym (fills_is sy e' i)) (init_like e e' g (out-Init i) h)))
 
-  filled_like : (e e' : Env) → Envs At e e' → (i : Option Init) → Fills (filled sx e i) (filled sy e' i)
+  pub filled_like : (e e' : Env) → Envs At e e' → (i : Option Init) → Fills (filled sx e i) (filled sy e' i)
   filled_like e e' g None shape p q a = alike_pure F _ _ _ (tt)
   filled_like e e' g (Some i) shape p q a = fills_like e e' g i shape p q a
 
@@ -202,7 +202,7 @@ module _ (F : Family) (At : Place → Place → Type 0) (source : Source) (Known
   -- the statics of a function lie at places that correspond to themselves
   module _ (st : (k : ℕ) → MaybeBound At (binding_at here.statics k) (binding_at here.statics k)) where
     with_like : (a b : Option Binding) → MaybeBound At a b → (f g : Env → Step Ending) → ((e e' : Env) → Envs At e e' → Like Flows (f e) (g e')) → (e e' : Env) → Envs At e e' → Like Flows (with_static a f e) (with_static b g e')
-    with_like None None h f g k e e' i = alike_halt F Flows meaningless
+    with_like None None h f g k e e' i = alike_halt F Flows meaningless tt
     with_like None (Some b) h f g k e e' i = absurd h
     with_like (Some a) None h f g k e e' i = absurd h
     with_like (Some a) (Some b) h f g k e e' i = k (a ∷ e) (b ∷ e') (h, i)
@@ -232,16 +232,16 @@ module _ (F : Family) (At : Place → Place → Type 0) (source : Source) (Known
     format_like : (line : ℕ) (ps : List Piece) (xs ys : List Labelled) → Nums xs ys → (m : Step Ending) (n : Step Ending) → Like Flows m n → Like Flows (put_format here.level line ps xs m) (put_format here.level line ps ys n)
     format_like line ps xs ys p m n h =
         if_like Flows (conversions ps == length xs) (conversions ps == length ys) _ _ _ _ (ap (λ (k : ℕ). conversions ps == k) (nums_length xs ys p))
-        (put_bytes_like line (printed ps xs) (printed ps ys) m n (printed_same ps xs ys p) h) (alike_halt F Flows meaningless)
+        (put_bytes_like line (printed ps xs) (printed ps ys) m n (printed_same ps xs ys p) h) (alike_halt F Flows meaningless tt)
 
     printing_like : (line : ℕ) (e e' : Env) → Envs At e e' → (xs : List Expr) (m : Step Ending) (n : Step Ending) → Like Flows m n → Like Flows (printing sx e line xs m) (printing sy e' line xs n)
-    printing_like line e e' g [] m n h = alike_halt F Flows meaningless
+    printing_like line e e' g [] m n h = alike_halt F Flows meaningless tt
     printing_like line e e' g (f ∷ xs) m n h =
         then_like Nums Flows (integers (map (meaning_of sx e) xs)) (integers (map (meaning_of sy e') xs)) _ _ (integers_like e e' g xs) (λ a b p.
         format_like line (pieces_of (text_of (out-Node f.node))) a b p m n h)
 
     putting_like : (line : ℕ) (e e' : Env) → Envs At e e' → (xs : List Expr) (m : Step Ending) (n : Step Ending) → Like Flows m n → Like Flows (putting sx e line xs m) (putting sy e' line xs n)
-    putting_like line e e' g [] m n h = alike_halt F Flows meaningless
+    putting_like line e e' g [] m n h = alike_halt F Flows meaningless tt
     putting_like line e e' g (x ∷ xs) m n h =
         then_like Num Flows (integer_of (meaning_of sx e x)) (integer_of (meaning_of sy e' x)) _ _ (integer_like _ _ (expr e e' g x)) (λ a b p.
         put_bytes_like line (low_byte a ∷ []) (low_byte b ∷ []) m n (ap (residue U8) p, tt) h)
@@ -262,32 +262,23 @@ module _ (F : Family) (At : Place → Place → Type 0) (source : Source) (Known
     tested_like e e' g (Some x) =
         then_like Num (λ (a b : Bool). a ≡ b) (integer_of (meaning_of sx e x)) (integer_of (meaning_of sy e' x)) _ _ (integer_like _ _ (expr e e' g x)) (λ a b p. pure_like (λ (u v : Bool). u ≡ v) (is_true a) (is_true b) (Expressions.true_same F At source Known named here calls calls' c hc a b p))
 
-    test_like : (line : ℕ) (e e' : Env) → Envs At e e' → (x : Option Expr) → Like (λ (a b : Bool). a ≡ b) (test_of sx line e x) (test_of sy line e' x)
-    test_like line e e' g x = next_like Any (λ (a b : Bool). a ≡ b) (within here.level line count_step) (within here.level line count_step) (tested sx e x) (tested sy e' x) (c.counts line) (tested_like e e' g x)
-
-    looped_like : (f f' : Ending) (m : Step Ending) (n : Step Ending) → Flows f f' → Like Flows m n → (a b : Ending) → Flows a b → Like Flows (looped f m a) (looped f' n b)
-    looped_like f f' m n g h (goes_on e) (goes_on e') s = h
-    looped_like f f' m n g h breaks breaks s = pure_like Flows f f' g
-    looped_like f f' m n g h continues continues s = h
-    looped_like f f' m n g h (returns v) (returns w) s = pure_like Flows (returns v) (returns w) s
-    looped_like f f' m n g h _ _ s = absurd s
-
-    halt_like : {A B : Type 0} (P : A → B → Type 0) (stop : Stop) → Like P (halted stop) (halted stop)
-    halt_like P stop = alike_halt F P stop
-
-    turns_like : (k k' : ℕ) → Bounds F.Lax k k' → (f f' : Ending) (u : Step Bool) (v : Step Bool) (m m' : Step Ending) (n n' : Step Ending) → Flows f f' → Like (λ (a b : Bool). a ≡ b) u v → Like Flows m n → Like Flows m' n' → Like Flows (turns k f u m m') (turns k' f' v n n')
-    turns_like zero zero b f f' u v m m' n n' g h i j = halt_like Flows unbounded
-    turns_like zero (suc k') b f f' u v m m' n n' g h i j = alike_lax F Flows unbounded (turns (suc k') f' v n n') (b.1 (omega arith))
-    turns_like (suc k) zero b f f' u v m m' n n' g h i j = let p : suc k ≤ 0 = b.0 in absurd (omega arith)
-    turns_like (suc k) (suc k') q f f' u v m m' n n' g h i j =
+    turns_like : F.Meets → (k k' : ℕ) → Bounds F.Lax k k' → (f f' : Ending) (u : Step Bool) (v : Step Bool) (m m' : Step Ending) (n n' : Step Ending) → Flows f f' → Like (λ (a b : Bool). a ≡ b) u v → Like Flows m n → Like Flows m' n' → Like Flows (turns k f u m m') (turns k' f' v n n')
+    turns_like meet zero zero b f f' u v m m' n n' g h i j = alike_meet F Flows meet
+    turns_like meet zero (suc k') b f f' u v m m' n n' g h i j = alike_lax F Flows unbounded (turns (suc k') f' v n n') (b.1 (omega arith))
+    turns_like meet (suc k) zero b f f' u v m m' n n' g h i j = let p : suc k ≤ 0 = b.0 in absurd (omega arith)
+    turns_like meet (suc k) (suc k') q f f' u v m m' n n' g h i j =
         then_like (λ (a b : Bool). a ≡ b) Flows u v _ _ h (λ a b p.
         if_like Flows a b _ _ _ _ p
-        (then_like Flows Flows m n _ _ i (looped_like f f' _ _ g (next_like Flows Flows m' n' _ _ j (turns_like k k' (less F.Lax k k' q) f f' u v m m' n n' g h i j))))
+        (then_like Flows Flows m n _ _ i (looped_like F At f f' _ _ g (next_like Flows Flows m' n' _ _ j (turns_like meet k k' (less F.Lax k k' q) f f' u v m m' n n' g h i j))))
         (pure_like Flows f f' g))
+
+    -- where one bound is no lower than the other
+    pub loops_like : F.Meets → (k k' : ℕ) → Bounds F.Lax k k' → Loops F At here.level k k'
+    loops_like meet k k' b line f f' u v m m' n n' g h i j = turns_like meet k k' b f f' _ _ m m' n n' g (next_like Any (λ (a b : Bool). a ≡ b) (within here.level line count_step) (within here.level line count_step) u v (c.counts line) h) i j
 
     -- ---- statements
 
-    module _ (bound bound' : ℕ) (bb : Bounds F.Lax bound bound') where
+    module _ (bound bound' : ℕ) (loops : Loops F At here.level bound bound') where
       abbrev pub Agrees : Stmt → Type 0
       Agrees s = Doings (doing_of sx bound s) (doing_of sy bound' s)
 
@@ -321,7 +312,7 @@ module _ (F : Family) (At : Place → Place → Type 0) (source : Source) (Known
       for_like : (x : Option Expr) (a b : Option Doing) (a' b' : Option Doing) (m : Doing) (m' : Doing) (line second : ℕ) → Runs (if_there a) (if_there a') → Runs (if_there b) (if_there b') → Runs m.run m'.run → Runs (act_run sx bound (act.For a x b m) line second) (act_run sy bound' (act.For a' x b' m') line second)
       for_like x a b a' b' m m' line second h i j k e e' g =
           scoped_like e e' _ _ g (then_like Flows Flows (if_there a k e) (if_there a' k e') _ _ (h k e e' g)
-          (after_like _ _ (λ o o' p. turns_like bound bound' bb (goes_on o) (goes_on o') _ _ _ _ _ _ p (test_like line o o' p x) (j k o o' p) (i k o o' p))))
+          (after_like _ _ (λ o o' p. loops line (goes_on o) (goes_on o') _ _ _ _ _ _ p (tested_like o o' p x) (j k o o' p) (i k o o' p))))
 
       level_like : (x : Act-F Act Stmt) → StmtParts Agrees x → (line second : ℕ) → Doings (act_doing sx bound (done_in sx bound x) line second) (act_doing sy bound' (done_in sy bound' x) line second)
       level_like act.Empty h line second = (refl, λ k e e' g. pure_like Flows (goes_on e) (goes_on e') g)
@@ -331,12 +322,12 @@ module _ (F : Family) (At : Place → Place → Type 0) (source : Source) (Known
       level_like (act.Call x) h line second = (refl, λ k e e' g. called_like e e' g x (out-Node x.node) _ _ (pure_like Flows (goes_on e) (goes_on e') g))
       level_like (act.If x a None) h line second = (Expressions.two_same (λ (u v : List Declarator). u ++ v) _ _ [] [] h.0.0 refl, branch_like x _ _ None None line second h.0 none_like)
       level_like (act.If x a (Some b)) h line second = (Expressions.two_same (λ (u v : List Declarator). u ++ v) _ _ _ _ h.0.0 h.1.0, branch_like x _ _ (Some (doing_of sx bound b)) (Some (doing_of sy bound' b)) line second h.0 h.1.1)
-      level_like (act.While x m) h line second = (h.0, λ k e e' g. turns_like bound bound' bb (goes_on e) (goes_on e') _ _ _ _ _ _ g (test_like line e e' g (Some x)) (h.1 k e e' g) (pure_like Flows (goes_on e) (goes_on e') g))
+      level_like (act.While x m) h line second = (h.0, λ k e e' g. loops line (goes_on e) (goes_on e') _ _ _ _ _ _ g (tested_like e e' g (Some x)) (h.1 k e e' g) (pure_like Flows (goes_on e) (goes_on e') g))
       level_like (act.DoWhile m x) h line second = (
         h.0,
         λ k e e' g.
             then_like Flows Flows ((doing_of sx bound m).run k e) ((doing_of sy bound' m).run k e') _ _ (h.1 k e e' g)
-            (looped_like (goes_on e) (goes_on e') _ _ g (turns_like bound bound' bb (goes_on e) (goes_on e') _ _ _ _ _ _ g (test_like line e e' g (Some x)) (h.1 k e e' g) (pure_like Flows (goes_on e) (goes_on e') g))),
+            (looped_like F At (goes_on e) (goes_on e') _ _ g (loops line (goes_on e) (goes_on e') _ _ _ _ _ _ g (tested_like e e' g (Some x)) (h.1 k e e' g) (pure_like Flows (goes_on e) (goes_on e') g))),
       )
       level_like (act.For None x None m) h line second = (h.2.0, for_like x None None None None (doing_of sx bound m) (doing_of sy bound' m) line second none_like none_like h.2.1)
       level_like (act.For None x (Some b) m) h line second = (h.2.0, for_like x None (Some (doing_of sx bound b)) None (Some (doing_of sy bound' b)) (doing_of sx bound m) (doing_of sy bound' m) line second none_like h.1.1 h.2.1)

@@ -1,5 +1,5 @@
 -- When two runs are the same but for labels.
-use Rattle.std.specs.Prelude.{◌≡◌, ℕ, ◌<◌, List, [], ◌∷◌, length, Option, Some, None, ◌⊎◌}
+use Rattle.std.specs.Prelude.{◌≡◌, ℕ, ◌<◌, List, [], ◌∷◌, length, Some, None, ◌⊎◌}
 use Rattle.cl_mean.specs.Value.{Labelled, Value, Values, number, parts, no_more, ◌then◌}
 use Rattle.cl_mean.specs.State.{Object, Written, LevelState, State, level_in}
 use Rattle.cl_mean.specs.Course.{Course, comes, stops, asks, Stop, Ask, Reply}

@@ -1,5 +1,5 @@
 -- The guarded run over a state for each level, and what a level's code leaves alone.
-use Rattle.std.specs.Prelude.{◌≡◌, ℕ, zero, suc, ◌<◌, ◌≤◌, ◌==◌, Bool, true, false, List, length, Option, Some, None, Result, Ok, Err, if◌then◌else◌}
+use Rattle.std.specs.Prelude.{◌≡◌, ℕ, zero, suc, ◌<◌, ◌≤◌, ◌==◌, true, false, List, length, Option, Some, None, Result, Ok, Err, if◌then◌else◌}
 use Rattle.cl_mean.specs.Value.{Labelled}
 use Rattle.cl_mean.specs.State.{State, level_in}
 use Rattle.cl_mean.specs.Source.{Definition, Source}

@@ -1,5 +1,5 @@
 -- What the laws say of runs.
-use Rattle.std.specs.Prelude.{◌≡◌, ℕ, suc, Bool, true, false, List, [], ◌∷◌, ◌++◌, Option, Some, None, Result, Ok, Err, ◌⊎◌}
+use Rattle.std.specs.Prelude.{◌≡◌, ℕ, suc, ℤ, Bool, true, false, List, [], ◌∷◌, ◌++◌, Option, Some, None, Result, Ok, Err, ◌⊎◌}
 use Rattle.cl_tree.specs.Words.{Word}
 use Rattle.cl_mean.specs.declared.checked.Checked.{Checked}
 use Rattle.cl_mean.specs.declared.law.Law.{Law}
@@ -12,7 +12,7 @@ use Rattle.cl_mean.specs.Calls.{far}
 use Rattle.cl_mean.specs.Guarded.{Guarded, Outcome, guarded, serves_at}
 use Rattle.cl_mean.specs.Meaning.{bound_of, main_step, guarded_start}
 use Rattle.cl_mean.specs.Journal.{Frame, Said, says_stop, message}
-use Rattle.cl_mean.specs.LocalRun.{Stand, rests, waits, over, Local, row_at, served_by, acted_all, began_in}
+use Rattle.cl_mean.specs.LocalRun.{Stand, rests, waits, over, Local, row_at, served_by, serving_of, acted_all, began_in}
 use Rattle.mean_laws.specs.Alike.{Nums, Replies, Asks, SideBySide, AtLevel, LevelsAll, Between}
 
 -- ---- guarded runs
@@ -54,6 +54,18 @@ abbrev pub NeverAsks : {A : Type 0} → Course A → Type 0
 NeverAsks (comes a s) = Unit {0}
 NeverAsks (stops h s) = Unit {0}
 NeverAsks (asks a s rest) = ⊥
+
+-- ---- the bound
+
+-- the course doesn't stop because the bound on turns and calls is met
+abbrev pub Unmet : {A : Type 0} → Course A → Type 0
+Unmet x = (state : State) → x ≡ stops unbounded state → ⊥
+
+-- nor does any course that a level may follow from where it stands: in answer to any request, or to any reply that it awaits
+abbrev pub StandsUnmet : Source → ℕ → Stand → Type 0
+StandsUnmet source bound (rests state) = (d : Definition) (numbers : List ℤ) → Unmet (serving_of source bound d numbers state)
+StandsUnmet source bound (waits role a state rest) = (reply : Reply) → Unmet (rest reply state)
+StandsUnmet source bound (over state) = Unit {0}
 
 -- ---- local runs
 

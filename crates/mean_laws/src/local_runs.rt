@@ -4,11 +4,12 @@ ghost use Rattle.std.specs.Prelude.{◌≡◌, ℕ, List, [], ◌∷◌, ◌++�
 ghost use Rattle.cl_mean.specs.declared.checked.Checked.{Checked as CheckedValue};
 ghost use Rattle.cl_mean.specs.State.{State};
 ghost use Rattle.cl_mean.specs.Source.{source_of, is_main_at};
-ghost use Rattle.cl_mean.specs.Meaning.{bound_of};
+ghost use Rattle.cl_mean.specs.Calls.{far};
+ghost use Rattle.cl_mean.specs.Meaning.{bound_of, main_step, start_of};
 ghost use Rattle.cl_mean.specs.Journal.{Frame};
-ghost use Rattle.cl_mean.specs.LocalRun.{Local, acted, local, output_at};
+ghost use Rattle.cl_mean.specs.LocalRun.{Local, acted, input_only, local, output_at};
 ghost use Rattle.mean_laws.specs.Alike.{AtLevel};
-ghost use Rattle.mean_laws.specs.Runs.{Adds, IsOver, IsPlaced, SameLocal, local_from};
+ghost use Rattle.mean_laws.specs.Runs.{Adds, IsOver, IsPlaced, SameLocal, StandsUnmet, Unmet, local_from};
 
 /// One frame more is one step more.
 pub fn one_frame_more()
@@ -37,4 +38,11 @@ pub fn before_the_first_frame()
 pub fn own_level_alone()
     ensures run { (checked : CheckedValue) → IsPlaced (source_of checked) → (level steps : ℕ) (s t : State) → AtLevel level s t → (frames : List Frame) → SameLocal level (local_from checked level steps s frames) (local_from checked level steps t frames) }
     ensures output { (level : ℕ) (l m : Local) → SameLocal level l m → output_at level l ≡ output_at level m }
+{}
+
+/// No course that a level may follow in its own run is stopped by the bound on turns and calls: neither that of `main` nor, whatever
+/// frames it received, what it does in answer to any request or reply.
+pub fn own_bound_is_never_met()
+    ensures main { (checked : CheckedValue) (level : ℕ) (input : List ℕ) (steps : ℕ) → Unmet (main_step checked (far (source_of checked)) (bound_of checked steps) (start_of checked (input_only level input) steps)) }
+    ensures frames { (checked : CheckedValue) (level : ℕ) (input : List ℕ) (steps : ℕ) (frames : List Frame) → StandsUnmet (source_of checked) (bound_of checked steps) (local checked level input steps frames).stand }
 {}

@@ -1,18 +1,18 @@
 //! Laws of the guarded meaning and of the plain meaning.
 
-ghost use Rattle.std.specs.Prelude.{◌≡◌, ℕ, ◌≤◌, List};
+ghost use Rattle.std.specs.Prelude.{◌≡◌, ℕ, ◌≤◌, List, Err};
 ghost use Rattle.cl_mean.specs.declared.checked.Checked.{Checked as CheckedValue};
 ghost use Rattle.cl_mean.specs.declared.law.Law.{Law as LawValue};
 ghost use Rattle.cl_mean.specs.Value.{Labelled};
 ghost use Rattle.cl_mean.specs.State.{State};
 ghost use Rattle.cl_mean.specs.Source.{Definition, Source, source_of};
-ghost use Rattle.cl_mean.specs.Course.{Course, Step, goes_to};
+ghost use Rattle.cl_mean.specs.Course.{Course, Step, goes_to, unbounded};
 ghost use Rattle.cl_mean.specs.Calls.{far, unguarded, call_at, local_call, served};
 ghost use Rattle.cl_mean.specs.Guarded.{Guarded, Serves, guarded, serves_at};
-ghost use Rattle.cl_mean.specs.Meaning.{main_step, plain_run};
+ghost use Rattle.cl_mean.specs.Meaning.{bound_of, guarded_run, main_step, plain_run, start_of};
 ghost use Rattle.mean_laws.specs.Alike.{AtLevel, LevelsAll, Nums, SideBySide};
 ghost use Rattle.mean_laws.specs.Apart.{AsksBelow, LeavesOthers, ServeSame, apart_at};
-ghost use Rattle.mean_laws.specs.Runs.{IsFunctionOf, IsPlaced, IsUnbounded, Never, NeverAsks, SameOutcome, run_from, then_run};
+ghost use Rattle.mean_laws.specs.Runs.{IsFunctionOf, IsPlaced, IsUnbounded, Never, NeverAsks, SameOutcome, Unmet, run_from, then_run};
 
 /// Labels don't matter: from states that differ in labels alone, guarded runs have the same numbers, stops, crossings and order.
 pub fn labels_do_not_matter()
@@ -44,4 +44,13 @@ pub fn other_levels_stay()
 /// levels go down in rank.
 pub fn levels_apart()
     ensures { (source : Source) → IsPlaced source → (bound count : ℕ) (rank : ℕ → ℕ) → ((d : Definition) → IsFunctionOf source d → (xs : List Labelled) (s : State) → AsksBelow count rank (IsFunctionOf source) d.level (served (local_call source bound (call_at source (far source) bound)) d xs s)) → (depth : ℕ) → ServeSame count rank (IsFunctionOf source) (serves_at source bound depth) (apart_at source bound depth) }
+{}
+
+/// The bound on turns and calls, which is the steps of all levels and one more, is never met: it stops no guarded run and no plain run,
+/// and under a greater bound both are the same.
+pub fn bound_is_never_met()
+    ensures guarded { (checked : CheckedValue) (law : LawValue) (houses : List LawValue) (inputs : List (List ℕ)) (steps : ℕ) → (guarded_run checked law houses inputs steps).result ≡ Err unbounded → ⊥ }
+    ensures guarded_greater { (checked : CheckedValue) (law : LawValue) (houses : List LawValue) (inputs : List (List ℕ)) (steps most : ℕ) → bound_of checked steps ≤ most → SameOutcome Never (guarded_run checked law houses inputs steps) (run_from checked law houses most (start_of checked inputs steps)) }
+    ensures plain { (checked : CheckedValue) (inputs : List (List ℕ)) (steps : ℕ) → Unmet (plain_run checked inputs steps) }
+    ensures plain_greater { (checked : CheckedValue) (inputs : List (List ℕ)) (steps most : ℕ) → bound_of checked steps ≤ most → SideBySide LevelsAll Never Nums (plain_run checked inputs steps) (main_step checked (unguarded (source_of checked)) most (start_of checked inputs steps)) }
 {}
