@@ -189,14 +189,17 @@ fn finds_the_common_kind(rt: HostRuntime) {
 }
 
 /// `apply_one` on a number of the kind, by an operator of one number.
+#[tactic(auto, unfolding(cl_tree::specs::Arithmetic::is_arithmetic))]
 fn applied_one(op: UnOp, kind: IntKind, a: i128) -> Option<Result<i128, TrapCause>> {
+    if !fits(kind, a) {
+        return None;
+    }
     match op {
         Star | Amp => None,
-        _ => if fits(kind, a) {
-            Some(apply_one(op, kind, a))
-        } else {
-            None
-        },
+        Minus => Some(apply_one(Minus, kind, a)),
+        Plus => Some(apply_one(Plus, kind, a)),
+        Flip => Some(apply_one(Flip, kind, a)),
+        Not => Some(apply_one(Not, kind, a)),
     }
 }
 
