@@ -1,4 +1,4 @@
-//! Tests of the router, of runs, and of the forms of sources that run: tables, with answers written out from the formats.
+//! Tests of a run through the router: tables, with answers worked out by hand.
 #![tactic(auto)]
 
 #[cfg(test)]
