@@ -7,17 +7,17 @@
 int kept;
 
 #pragma cle KEEP
-void keep(unsigned char image[4096]) {
+void keep(unsigned long long image[512]) {
   kept++;
-  image[4095] = kept;
+  image[511] = kept;
 }
 
 int main(void) {
-  unsigned char image[4096];
+  unsigned long long image[512];
   for (int i = 0; i < 2000; i++) {
     keep(image);
     putchar('.');
   }
-  printf("%d\n", image[4095]);
+  printf("%llu\n", image[511]);
   return 0;
 }

@@ -53,3 +53,40 @@ pub const OUTPUT_BYTES: usize = 1_000_000;
 
 /// Frame cost of one calling level.
 pub const FRAME_COST: u32 = 8_388_608;
+
+// Contracts cite these constants by their names, so the numbers stand here once more.
+const _: () = prove!(SOURCE_BYTES == 1_048_576);
+
+const _: () = prove!(LEVELS == 32);
+
+const _: () = prove!(DEFINITIONS == 1024);
+
+const _: () = prove!(STRUCTS == 256);
+
+const _: () = prove!(FUNCTIONS == 4096);
+
+const _: () = prove!(OBJECTS == 4096);
+
+const _: () = prove!(OBJECT_INTEGERS == 65_536);
+
+const _: () = prove!(STATIC_INTEGERS == 1_048_576);
+
+const _: () = prove!(LOCAL_INTEGERS == 8192);
+
+const _: () = prove!(PAYLOAD_BYTES == 4096);
+
+const _: () = prove!(FRAME_BYTES == 4121);
+
+const _: () = prove!(POLICY_RULES == 1024);
+
+const _: () = prove!(OPEN_BRACKETS == 64);
+
+const _: () = prove!(RUN_TOKENS == 512);
+
+const _: () = prove!(ITEM_ELSES == 256);
+
+const _: () = prove!(ACTIVE_CALLS == 256);
+
+const _: () = prove!(OUTPUT_BYTES == 1_000_000);
+
+const _: () = prove!(FRAME_COST == 8_388_608);

@@ -1,6 +1,7 @@
 //! The reader of the forms.
 
 ghost use Rattle.std.specs.Prelude.{◌≡◌, ℕ, ◌≤◌, List, length, IfOk, MatchResult};
+ghost use Rattle.cl_base.specs.declared.limits.TheConstants.{SOURCE_BYTES};
 ghost use Rattle.cl_mean.specs.declared.checked.Checked.{Checked as CheckedValue};
 ghost use Rattle.cl_form.specs.Form.{HasForm};
 ghost use Rattle.cl_form.specs.Reading.{Gives, read_program};
@@ -30,7 +31,7 @@ fn read_program(alloc: Global, source: &[u8], program: Program) -> Result<Checke
 /// variable and a function of the second one, which `main` may call. `NoReading` says that the source
 /// is of neither form.
 pub fn read_form(alloc: Global, source: &[u8]) -> Result<Checked, FormStop>
-    requires { length source.now ≤ 1048576 }
+    requires { length source.now ≤ SOURCE_BYTES }
     // What is read is of a form.
     ensures found { IfOk result (λ c. HasForm source.now c) }
     // What is of a form is read, unless memory runs out: so a source with no reading is of no form.

@@ -5,7 +5,7 @@ use cl_base::name::Name;
 /// The names of a source of two levels: the levels, `near` that of `main` and `far` that of the other
 /// function; the labels of the near level, of the variable, of the result and of the function; and the
 /// names of the variable and of the function.
-#[derive(Debug, Drop)]
+#[derive(Drop)]
 pub struct Pair {
     pub near: Name,
     pub far: Name,
@@ -18,7 +18,7 @@ pub struct Pair {
 }
 
 /// The names of a source of one level, and the line of the name `main`.
-#[derive(Debug, Drop)]
+#[derive(Drop)]
 pub struct Alone {
     pub label: Name,
     pub level: Name,
@@ -27,7 +27,7 @@ pub struct Alone {
 
 /// What is found in a source of two levels: its names, the lines of the names of its functions, and
 /// whether `main` calls the other one.
-#[derive(Debug, Drop)]
+#[derive(Drop)]
 pub struct Found {
     pub names: Pair,
     pub line: u32,

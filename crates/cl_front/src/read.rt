@@ -1,6 +1,7 @@
 //! From the bytes of a source to its program.
 
 ghost use Rattle.std.specs.Prelude.{◌≡◌, ◌⊎◌, ℕ, ◌≤◌, List, length, IfOk, IfErr, MatchResult};
+ghost use Rattle.cl_base.specs.declared.limits.TheConstants.{SOURCE_BYTES};
 ghost use Rattle.cl_tree.specs.declared.tree.Program.{Program as ProgramValue};
 ghost use Rattle.cl_front.specs.Source.{ReadsWithin, FailsFirst, HasProgram, HasFailure};
 ghost use Rattle.cl_front.specs.Answer.{IsFailure};
@@ -15,7 +16,7 @@ use std::alloc::Global;
 /// It is refused by the first lexical rule that it breaks (E02 to E05 and E07), at the line of its first
 /// failing place; else by E23 or E06, at the line that the reader names.
 pub fn read_source(alloc: Global, bytes: &[u8]) -> Result<Program, FrontStop>
-    requires { length bytes.now ≤ 1048576 }
+    requires { length bytes.now ≤ SOURCE_BYTES }
     // What is read is what the bytes spell, within the limits.
     ensures found { IfOk result (λ p. ReadsWithin bytes.now p) }
     // What the bytes spell is read, unless memory runs out.

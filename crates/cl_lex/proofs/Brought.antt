@@ -28,13 +28,14 @@ use Rattle.cl_tree.specs.Letters.{is_newline, is_name, is_letter, is_word}
 use Rattle.cl_tree.specs.Pieces.{go, by_state, runs, opening, shape, is_piece, mark}
 use Rattle.cl_tree.specs.Literals.{integer, letter, inside}
 use Rattle.cl_tree.specs.Words.{keyword, kind_of, is_real, is_type_word, is_free, is_byte, named, spelled_word, spelled_kind, spelled_type, comes}
-use Rattle.cl_tree.specs.Runs.{is_type, word_of, more_words, single, piece, pieces_from, pieces}
+use Rattle.cl_tree.specs.Runs.{is_type, word_of, more_words, single, terminal, terminals_from, terminals}
 use Rattle.cl_tree.specs.Tokens.{Definitions, Before, at_start, behind, literal_meaning, number_meaning, string_as, string_meaning, mark_as, meaning_as, piece_meaning, definitions_after, IsCut, meant, replaced, token_as, tokens_from, text_of, both_text, glued, joined_behind, joined}
 use Rattle.cl_lex.specs.Laws.{BringsOnly}
 use Rattle.cl_lex.proofs.Shapes.{directive_line}
+use Rattle.cl_literals.proofs.Tests.{and_left, and_right, by_test}
 use Rattle.cl_lex.proofs.Words.{piece_is, opening_letter, runs_words}
-use Rattle.cl_lex.proofs.BroughtValues.{and_left, and_right, both, ValueComes, integer_comes, letter_comes, BytesCome, unescaped_come}
-use Rattle.cl_lex.proofs.BroughtLines.{lexeme_comes, LiteralComes, MeaningComes, blank, bad, is_lexeme, if_meaning, allowed_comes, directive_comes}
+use Rattle.cl_lex.proofs.BroughtValues.{both, ValueComes, integer_comes, letter_comes, BytesCome, unescaped_come}
+use Rattle.cl_lex.proofs.BroughtLines.{lexeme_comes, LiteralComes, MeaningComes, blank, bad, is_lexeme, allowed_comes, directive_comes}
 
 -- what a piece means
 
@@ -69,7 +70,7 @@ value_meaning (Holds (Byte b)) h = is_lexeme (lexeme.Letter b) h
 
 number_comes : (p : List ℕ) → MeaningComes (number_meaning p)
 unfolding number_meaning
-number_comes p = if_meaning _ (Is Floating) _ (is_lexeme Floating refl) (value_meaning (integer p) (integer_comes p))
+number_comes p = by_test MeaningComes _ (Is Floating) _ (is_lexeme Floating refl) (value_meaning (integer p) (integer_comes p))
 
 bytes_meaning : (x : Option (List ℕ)) → BytesCome x → MeaningComes (string_as x)
 unfolding BytesCome
@@ -108,17 +109,13 @@ DefinitionsCome m = (q : List ℕ) → LiteralComes (m q)
 abbrev all_come : List Token → Bool
 all_come ts = list_all (λ t. lexeme_comes t.what) ts
 
-if_literal : (t : Bool) (x y : Option Literal) → LiteralComes x → LiteralComes y → LiteralComes (cond t x y)
-if_literal true x y a b = a
-if_literal false x y a b = b
-
 definitions_come : (m : Definitions) (x : PieceMeaning) → DefinitionsCome m → MeaningComes x → DefinitionsCome (definitions_after m x)
 unfolding MeaningComes
 definitions_come m Blank d h = d
 definitions_come m (Bad rule i) d h = d
 definitions_come m (Is l) d h = d
 definitions_come m (Defines name None at) d h = d
-definitions_come m (Defines name (Some l) at) d h = λ q. if_literal (bytes_eq name q) (Some l) (m q) h (d q)
+definitions_come m (Defines name (Some l) at) d h = λ q. by_test LiteralComes (bytes_eq name q) (Some l) (m q) h (d q)
 
 meant_comes : (x : Option Literal) (name : List ℕ) → LiteralComes x → is_name name ≡ true → lexeme_comes (meant x name) ≡ true
 meant_comes None name d h = h
@@ -163,16 +160,12 @@ text_comes (Cle pragma) h = refl
 glued_comes : (u t : Token) → lexeme_comes u.what ≡ true → lexeme_comes t.what ≡ true → lexeme_comes (glued u t).what ≡ true
 glued_comes u t a b = list_all-append is_byte (text_of u.what) (text_of t.what) ∙ both _ _ (text_comes u.what a) (text_comes t.what b)
 
-if_tokens : (b : Bool) (xs ys : List Token) → all_come xs ≡ true → all_come ys ≡ true → all_come (cond b xs ys) ≡ true
-if_tokens true xs ys a b = a
-if_tokens false xs ys a b = b
-
 behind_come : (u : Token) (ts : List Token) → lexeme_comes u.what ≡ true → all_come ts ≡ true → all_come (joined_behind u ts) ≡ true
 behind_come u [] h a = both (lexeme_comes u.what) true h refl
 behind_come u (t ∷ ts) h a =
     let first = and_left (lexeme_comes t.what) (all_come ts) a in
     let rest = and_right (lexeme_comes t.what) (all_come ts) a in
-    if_tokens (both_text u.what t.what) _ _ (behind_come (glued u t) ts (glued_comes u t h first) rest) (both (lexeme_comes u.what) _ h (behind_come t ts first rest))
+    by_test (λ us. all_come us ≡ true) (both_text u.what t.what) _ _ (behind_come (glued u t) ts (glued_comes u t h first) rest) (both (lexeme_comes u.what) _ h (behind_come t ts first rest))
 
 joined_come : (ts : List Token) → all_come ts ≡ true → all_come (joined ts) ≡ true
 joined_come [] a = refl
@@ -205,13 +198,13 @@ type_comes : (text : List ℕ) → comes (spelled_type text) ≡ true
 unfolding spelled_type
 type_comes text = kind_comes (kind_of text) (is_real text)
 
-signs_step : (within : Bool) (t : Token) (ts : List Token) (x : Bool) → is_type t.what ≡ x → lexeme_comes t.what ≡ true → ((w : Bool) → list_all (λ p. comes p.what) (pieces_from w ts) ≡ true) → list_all (λ p. comes p.what) (cond x (cond within (pieces_from true ts) (piece t.line (spelled_type (word_of t.what ++ more_words ts)) ∷ pieces_from true ts)) (piece t.line (single t.what) ∷ pieces_from false ts)) ≡ true
+signs_step : (within : Bool) (t : Token) (ts : List Token) (x : Bool) → is_type t.what ≡ x → lexeme_comes t.what ≡ true → ((w : Bool) → list_all (λ p. comes p.what) (terminals_from w ts) ≡ true) → list_all (λ p. comes p.what) (cond x (cond within (terminals_from true ts) (terminal t.line (spelled_type (word_of t.what ++ more_words ts)) ∷ terminals_from true ts)) (terminal t.line (single t.what) ∷ terminals_from false ts)) ≡ true
 signs_step true t ts true e h r = r true
 signs_step false t ts true e h r = both _ _ (type_comes (word_of t.what ++ more_words ts)) (r true)
 signs_step within t ts false e h r = both (comes (single t.what)) _ (single_comes t.what e h) (r false)
 
-signs_come : (within : Bool) (ts : List Token) → all_come ts ≡ true → list_all (λ p. comes p.what) (pieces_from within ts) ≡ true
-unfolding pieces_from
+signs_come : (within : Bool) (ts : List Token) → all_come ts ≡ true → list_all (λ p. comes p.what) (terminals_from within ts) ≡ true
+unfolding terminals_from
 signs_come within [] a = refl
 signs_come within (t ∷ ts) a = signs_step within t ts (is_type t.what) refl (and_left (lexeme_comes t.what) (all_come ts) a) (λ w. signs_come w ts (and_right (lexeme_comes t.what) (all_come ts) a))
 
@@ -220,7 +213,7 @@ unfolding at_start
 none_defined = λ q. tt
 
 pub brought : (source : List ℕ) → BringsOnly source
-unfolding pieces
+unfolding terminals
 brought source ts a =
     let cut = tokens_from (places_of source) at_start 0 a.pieces in
     signs_come false ts (ap all_come a.tokens ∙ joined_come cut (tokens_come (places_of source) at_start 0 a.pieces (bytes_of source) [] a.last none_defined a.cut))

@@ -6,7 +6,7 @@ use Rattle.std.proofs.lemmas.List.{get_or-drop, get_or-reverse, get_or-take, dro
 use Rattle.std.proofs.lemmas.List.Folds.{list_all-append}
 use Rattle.std.proofs.lemmas.List.Sums.{prefix_len_stops, suffix_len-le-length}
 use Rattle.std.proofs.lemmas.Iterator.Adapters.{position_from-zero}
-use Rattle.std.proofs.lemmas.Bool.{false≢true, lt-ltb}
+use Rattle.std.proofs.lemmas.Bool.{cond_both, false≢true, lt-ltb}
 use Rattle.std.proofs.lemmas.Bool.Decides.{nat_tests}
 use Rattle.cl_tree.specs.declared.token.Lexeme.{Lexeme}
 use Rattle.cl_tree.specs.declared.token.Lexeme.TheVariants.{Word, Integer, Floating, Text, Mark, Cle}
@@ -24,8 +24,10 @@ use Rattle.cl_tree.specs.declared.pieces.Part.TheVariants.{Code}
 use Rattle.cl_tree.specs.Letters.{is_blank, is_on_line, is_newline, is_bad, is_letter, is_word, is_name}
 use Rattle.cl_tree.specs.Words.{is_literal, is_byte, is_definition, is_cle_word, is_pragma}
 use Rattle.cl_tree.specs.Directives.{blanked, behind_blanks, trimmed, word_len, word, behind_word, has_word, behind_words, allowed_as, allowed, header, defined_as, name_and_literal, cle_if, cle, other_pragma, form, behind_hash, by_blanked, is_def, def_line, directive}
-use Rattle.cl_lex.proofs.Words.{front_words, letter_word}
-use Rattle.cl_lex.proofs.BroughtValues.{and_left, and_right, both, literal_comes, ValueComes, literal_value_comes}
+use Rattle.cl_literals.proofs.Tests.{and_left, and_right, by_test}
+use Rattle.cl_literals.proofs.Words.{front_words}
+use Rattle.cl_lex.proofs.Words.{letter_word}
+use Rattle.cl_lex.proofs.BroughtValues.{both, literal_comes, ValueComes, literal_value_comes}
 
 abbrev pub lexeme_comes : Lexeme → Bool
 lexeme_comes (Word w) = is_name w
@@ -61,14 +63,6 @@ is_lexeme l h = h
 defines : (name : List ℕ) (l : Option Literal) (at : ℕ) → LiteralComes l → MeaningComes (Defines name l at)
 unfolding MeaningComes
 defines name l at h = h
-
-pub if_meaning : (t : Bool) (x y : PieceMeaning) → MeaningComes x → MeaningComes y → MeaningComes (cond t x y)
-if_meaning true x y a b = a
-if_meaning false x y a b = b
-
-if_true : (t : Bool) (x y : PieceMeaning) → (t ≡ true → MeaningComes x) → MeaningComes y → MeaningComes (cond t x y)
-if_true true x y a b = a refl
-if_true false x y a b = b
 
 allowed_known : (x : Option ℕ) (m : PieceMeaning) → (x ≡ None → MeaningComes m) → MeaningComes (allowed_as x m)
 allowed_known None m f = f refl
@@ -108,7 +102,7 @@ name_word (b ∷ bs) h = name_step b bs (and_left (is_letter b) (list_all is_wor
 
 header_comes : (xs : List ℕ) → MeaningComes (header xs)
 unfolding header
-header_comes xs = if_meaning _ Blank (Bad E05 0) blank (bad E05 0)
+header_comes xs = by_test MeaningComes _ Blank (Bad E05 0) blank (bad E05 0)
 
 defined_comes : (name : List ℕ) (at : ℕ) (v : LiteralValue) → ValueComes v → MeaningComes (defined_as name at v)
 unfolding ValueComes
@@ -118,26 +112,26 @@ defined_comes name at (Holds l) h = defines name (Some l) at h
 
 literal_form_comes : (n : ℕ) (xs : List ℕ) → MeaningComes (name_and_literal n xs)
 unfolding name_and_literal
-literal_form_comes n xs = if_meaning _ _ (Bad E05 0) (defined_comes _ _ _ (literal_value_comes _)) (bad E05 0)
+literal_form_comes n xs = by_test MeaningComes _ _ (Bad E05 0) (defined_comes _ _ _ (literal_value_comes _)) (bad E05 0)
 
 cle_if_comes : (t : Bool) (p : Pragma) → (t ≡ true → is_pragma p ≡ true) → MeaningComes (cle_if t p)
 unfolding cle_if
-cle_if_comes t p f = if_true t (Is (Cle p)) (Bad E05 0) (λ e. is_lexeme (Cle p) (f e)) (bad E05 0)
+cle_if_comes t p f = cond_both t (Is (Cle p)) (Bad E05 0) MeaningComes (λ e. is_lexeme (Cle p) (f e)) (λ e. bad E05 0)
 
 cle_comes : (xs : List ℕ) → MeaningComes (cle xs)
 unfolding cle is_pragma
 cle_comes xs =
-    if_meaning _ _ _ (cle_if_comes _ (Begin (word (behind_word xs))) (λ e. word_name _ (name_word _ e)))
-    (if_meaning _ _ _ (cle_if_comes _ (End (word (behind_word xs))) (λ e. word_name _ (name_word _ e)))
+    by_test MeaningComes _ _ _ (cle_if_comes _ (Begin (word (behind_word xs))) (λ e. word_name _ (name_word _ e)))
+    (by_test MeaningComes _ _ _ (cle_if_comes _ (End (word (behind_word xs))) (λ e. word_name _ (name_word _ e)))
     (cle_if_comes (is_name xs && not (is_cle_word (word xs))) (Next (word xs)) (λ e. both (is_name (word xs)) _ (word_name xs (name_word xs (and_left (is_name xs) _ e))) (and_right (is_name xs) _ e))))
 
 other_comes : (line xs : List ℕ) → MeaningComes (other_pragma line xs)
 unfolding other_pragma
-other_comes line xs = if_meaning _ _ (Bad E05 0) (allowed_comes line Blank (λ e. blank)) (bad E05 0)
+other_comes line xs = by_test MeaningComes _ _ (Bad E05 0) (allowed_comes line Blank (λ e. blank)) (bad E05 0)
 
 form_comes : (line xs : List ℕ) → MeaningComes (form line xs)
 unfolding form
-form_comes line xs = if_meaning _ _ _ (header_comes _) (if_meaning _ _ _ (literal_form_comes _ _) (if_meaning _ _ _ (cle_comes _) (if_meaning _ _ _ (other_comes line _) (bad E05 0))))
+form_comes line xs = by_test MeaningComes _ _ _ (header_comes _) (by_test MeaningComes _ _ _ (literal_form_comes _ _) (by_test MeaningComes _ _ _ (cle_comes _) (by_test MeaningComes _ _ _ (other_comes line _) (bad E05 0))))
 
 blanked_comes : (x : Option (List ℕ)) → MeaningComes (by_blanked x)
 blanked_comes None = bad E05 0
@@ -247,4 +241,4 @@ def_comes p n e =
 
 pub directive_comes : (p : List ℕ) → list_all (λ b. not (is_newline b)) p ≡ true → MeaningComes (directive p)
 unfolding directive
-directive_comes p n = if_true _ _ _ (def_comes p n) (blanked_comes (blanked Code [] p))
+directive_comes p n = cond_both _ _ _ MeaningComes (def_comes p n) (λ e. blanked_comes (blanked Code [] p))

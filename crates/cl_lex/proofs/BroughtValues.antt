@@ -20,14 +20,7 @@ use Rattle.cl_tree.specs.declared.pieces.TheConstants.{ESCAPES}
 use Rattle.cl_tree.specs.Letters.{is_printable}
 use Rattle.cl_tree.specs.Literals.{fitting, number_from, is_digit_in, are_digits, base_of, digits_of, width_of, types_of, limit, kind_of, with_kind, valued, numeral, suffixed, integer_split, integer, byte_or_big, by_digits, letter_escape, simple_escape, escape_at, by_escape, unescaped, escaped_letter, letter_inside, inside, letter, literal}
 use Rattle.cl_tree.specs.Words.{literals, is_literal, is_byte}
-
-pub and_left : (x y : Bool) → (x && y) ≡ true → x ≡ true
-and_left true y e = refl
-and_left false y e = e
-
-pub and_right : (x y : Bool) → (x && y) ≡ true → y ≡ true
-and_right true y e = e
-and_right false y e = absurd (false≢true e)
+use Rattle.cl_literals.proofs.Tests.{and_left, and_right, by_test}
 
 pub both : (x y : Bool) → x ≡ true → y ≡ true → (x && y) ≡ true
 both true y e h = h
@@ -53,10 +46,6 @@ unfit = tt
 holds : (l : Literal) → literal_comes l ≡ true → ValueComes (Holds l)
 unfolding ValueComes
 holds l h = h
-
-if_value : (t : Bool) (x y : LiteralValue) → ValueComes x → ValueComes y → ValueComes (cond t x y)
-if_value true x y a b = a
-if_value false x y a b = b
 
 -- integers
 
@@ -127,7 +116,7 @@ numeral_comes : (u : Bool) (w : Width) (body : List ℕ) → ValueComes (numeral
 unfolding numeral
 numeral_comes u w body =
     let value = fitting (number_from (base_of body) 0 (digits_of body)) in
-    if_value (are_digits (base_of body) (digits_of body)) (valued (base_of body == 10) u w value) Wrong (valued_comes (base_of body == 10) u w value) wrong
+    by_test ValueComes (are_digits (base_of body) (digits_of body)) (valued (base_of body == 10) u w value) Wrong (valued_comes (base_of body == 10) u w value) wrong
 
 suffixed_comes : (u : Bool) (body : List ℕ) (x : Option Width) → ValueComes (suffixed u body x)
 suffixed_comes u body None = wrong
@@ -156,10 +145,6 @@ a_value : (v n : ℕ) → is_byte v ≡ true → EscapeComes (Value v n)
 unfolding EscapeComes
 a_value v n e = e
 
-if_escape : (t : Bool) (x y : Escape) → EscapeComes x → EscapeComes y → EscapeComes (cond t x y)
-if_escape true x y a b = a
-if_escape false x y a b = b
-
 byte_step : (n v : ℕ) (t : Bool) → nat_lt v 256 ≡ t → EscapeComes (cond t (Value v n) (TooBig n))
 unfolding is_byte
 byte_step n v true e = a_value v n e
@@ -173,7 +158,7 @@ by_digits_comes : (base before : ℕ) (xs : List ℕ) → EscapeComes (by_digits
 unfolding by_digits
 by_digits_comes base before xs =
     let n = prefix_len (is_digit_in base) xs in
-    if_escape (n == 0) NoEscape (byte_or_big (before + n) (fitting (number_from base 0 (take n xs)))) no_escape (big_comes (before + n) (fitting (number_from base 0 (take n xs))))
+    by_test EscapeComes (n == 0) NoEscape (byte_or_big (before + n) (fitting (number_from base 0 (take n xs)))) no_escape (big_comes (before + n) (fitting (number_from base 0 (take n xs))))
 
 row_step : (t : Bool) (row : ℕ × ℕ) (rest : Option (ℕ × ℕ)) → is_byte row.1 ≡ true → EscapeComes (letter_escape rest) → EscapeComes (letter_escape (cond t (Some row) rest))
 row_step true row rest e h = a_value row.1 1 e
@@ -191,15 +176,15 @@ escape_comes : (xs : List ℕ) → EscapeComes (escape_at xs)
 unfolding escape_at
 escape_comes xs =
     let b = get_or xs 0 0 in
-    if_escape (length xs == 0) NoEscape _ no_escape
-    (if_escape (is_digit_in 8 b) (by_digits 8 0 (take 3 xs)) _ (by_digits_comes 8 0 (take 3 xs))
-    (if_escape (b == code "x") (by_digits 16 1 (drop 1 xs)) (simple_escape b) (by_digits_comes 16 1 (drop 1 xs)) (simple_comes b)))
+    by_test EscapeComes (length xs == 0) NoEscape _ no_escape
+    (by_test EscapeComes (is_digit_in 8 b) (by_digits 8 0 (take 3 xs)) _ (by_digits_comes 8 0 (take 3 xs))
+    (by_test EscapeComes (b == code "x") (by_digits 16 1 (drop 1 xs)) (simple_escape b) (by_digits_comes 16 1 (drop 1 xs)) (simple_comes b)))
 
 escaped_comes : (n : ℕ) (e : Escape) → EscapeComes e → ValueComes (escaped_letter n e)
 unfolding EscapeComes
 escaped_comes n NoEscape h = wrong
-escaped_comes n (TooBig k) h = if_value _ Unfit Wrong unfit wrong
-escaped_comes n (Value b k) h = if_value _ (Holds (Byte b)) Wrong (holds (Byte b) h) wrong
+escaped_comes n (TooBig k) h = by_test ValueComes _ Unfit Wrong unfit wrong
+escaped_comes n (Value b k) h = by_test ValueComes _ (Holds (Byte b)) Wrong (holds (Byte b) h) wrong
 
 printable_byte : (b : ℕ) → is_printable b ≡ true → is_byte b ≡ true
 unfolding is_printable is_byte
@@ -214,19 +199,19 @@ inside_comes : (xs : List ℕ) → ValueComes (letter_inside xs)
 unfolding letter_inside
 inside_comes xs =
     let b = get_or xs 0 0 in
-    if_value (length xs == 1) _ _ (printable_comes b (is_printable b) (not ((b == code "'") || (b == code "\\"))) refl)
-    (if_value (b == code "\\") (escaped_letter (length xs) (escape_at (drop 1 xs))) Wrong (escaped_comes (length xs) (escape_at (drop 1 xs)) (escape_comes (drop 1 xs))) wrong)
+    by_test ValueComes (length xs == 1) _ _ (printable_comes b (is_printable b) (not ((b == code "'") || (b == code "\\"))) refl)
+    (by_test ValueComes (b == code "\\") (escaped_letter (length xs) (escape_at (drop 1 xs))) Wrong (escaped_comes (length xs) (escape_at (drop 1 xs)) (escape_comes (drop 1 xs))) wrong)
 
 pub letter_comes : (p : List ℕ) → ValueComes (letter p)
 unfolding letter
 letter_comes p =
     let n = length p in
-    if_value (nat_lt n 2) Wrong _ wrong
-    (if_value ((get_or p 0 0 == code "'") && (get_or p (n - 1) 0 == code "'")) (letter_inside (inside p)) Wrong (inside_comes (inside p)) wrong)
+    by_test ValueComes (nat_lt n 2) Wrong _ wrong
+    (by_test ValueComes ((get_or p 0 0 == code "'") && (get_or p (n - 1) 0 == code "'")) (letter_inside (inside p)) Wrong (inside_comes (inside p)) wrong)
 
 pub literal_value_comes : (p : List ℕ) → ValueComes (literal p)
 unfolding literal
-literal_value_comes p = if_value (get_or p 0 0 == code "'") (letter p) (integer p) (letter_comes p) (integer_comes p)
+literal_value_comes p = by_test ValueComes (get_or p 0 0 == code "'") (letter p) (integer p) (letter_comes p) (integer_comes p)
 
 -- strings
 
@@ -241,10 +226,6 @@ no_bytes = tt
 these : (bytes : List ℕ) → list_all is_byte bytes ≡ true → BytesCome (Some bytes)
 unfolding BytesCome
 these bytes h = h
-
-if_bytes : (t : Bool) (x y : Option (List ℕ)) → BytesCome x → BytesCome y → BytesCome (cond t x y)
-if_bytes true x y a b = a
-if_bytes false x y a b = b
 
 one_more : (done : List ℕ) (v : ℕ) → list_all is_byte done ≡ true → is_byte v ≡ true → list_all is_byte (done ++ v ∷ []) ≡ true
 one_more done v d e = list_all-append is_byte done (v ∷ []) ∙ both (list_all is_byte done) (is_byte v && true) d (both (is_byte v) true e refl)
@@ -263,6 +244,6 @@ pub unescaped_come : (skip : ℕ) (done xs : List ℕ) → list_all is_byte done
 unescaped_come skip done [] d = these done d
 unescaped_come (suc k) done (b ∷ bs) d = unescaped_come k done bs d
 unescaped_come zero done (b ∷ bs) d =
-    if_bytes (b == code "\\") _ _
+    by_test BytesCome (b == code "\\") _ _
     (escape_step (λ v n. unescaped n (done ++ v ∷ []) bs) (escape_at bs) (escape_comes bs) (λ v n e. unescaped_come n (done ++ v ∷ []) bs (one_more done v d e)))
     (plain_step b (is_printable b) _ refl (λ e. unescaped_come 0 (done ++ b ∷ []) bs (one_more done b d e)))

@@ -1,7 +1,6 @@
 pub mod Joins
-pub mod Numbers
-pub mod Escapes
 pub mod Shapes
+pub mod Marks
 pub mod Taken
 pub mod Cuts
 pub mod Words

@@ -1,5 +1,5 @@
 -- The tokens of a source stand in its order.
-use Rattle.std.proofs.Common.{◌≡◌, ℕ, suc, zero, ◌+◌, ◌-◌, ◌<◌, ◌≤◌, Bool, true, false, cond, List, [], ◌∷◌, ◌++◌, length, map, drop, get_or, refl, sym, ap, ◌∙◌, subst, arith, length-append}
+use Rattle.std.proofs.Common.{◌≡◌, ℕ, suc, zero, ◌+◌, ◌-◌, ◌<◌, ◌≤◌, List, [], ◌∷◌, ◌++◌, length, map, drop, get_or, refl, sym, ap, ◌∙◌, subst, arith, length-append}
 use Rattle.std.proofs.lemmas.List.{get_or-drop, drop-drop, length-drop}
 use Rattle.std.proofs.lemmas.Bool.Decides.{nat_tests}
 use Rattle.cl_tree.specs.declared.pieces.Place.{Place}
@@ -7,9 +7,10 @@ use Rattle.cl_tree.specs.declared.pieces.PieceMeaning.{PieceMeaning}
 use Rattle.cl_tree.specs.declared.pieces.PieceMeaning.TheVariants.{Blank, Bad, Is, Defines}
 use Rattle.cl_tree.specs.declared.token.Token.{Token}
 use Rattle.std.specs.Prelude.{◌==◌, Result, Ok, Err, IfOk}
-use Rattle.cl_tree.specs.Joins.{bytes_of, places_of, Cell, cell, cells, join_len, line_after}
+use Rattle.cl_tree.specs.Joins.{bytes_of, places_of, cell, cells, join_len, line_after}
 use Rattle.cl_tree.specs.Tokens.{Definitions, Before, at_start, behind, piece_meaning, IsCut, token_as, tokens_from, both_text, glued, joined_behind, joined, AreTokens}
 use Rattle.cl_lex.specs.Laws.{InOrder, AreInOrder}
+use Rattle.cl_literals.proofs.Tests.{by_test}
 use Rattle.cl_lex.proofs.Joins.{same_len}
 use Rattle.cl_lex.proofs.Cuts.{piece_some}
 
@@ -30,10 +31,6 @@ line_grows : (line b : ℕ) → line ≤ line_after line b
 unfolding line_after
 line_grows line b = grind (arith, nat_tests)
 
-if_placed : (from line end : ℕ) (t : Bool) (xs ys : List Cell) → Placed from line end (map (λ c. c.place) xs) → Placed from line end (map (λ c. c.place) ys) → Placed from line end (map (λ c. c.place) (cond t xs ys))
-if_placed from line end true xs ys a b = a
-if_placed from line end false xs ys a b = b
-
 cells_placed : (skip start line from above : ℕ) (bs : List ℕ) → from ≤ start → above ≤ line → Placed from above (start + length bs) (map (λ c. c.place) (cells skip start line bs))
 cells_placed skip start line from above [] a b = omega arith
 cells_placed (suc k) start line from above (x ∷ bs) a b =
@@ -43,7 +40,7 @@ cells_placed (suc k) start line from above (x ∷ bs) a b =
 cells_placed zero start line from above (x ∷ bs) a b =
     let g = line_grows line x in
     let e : start + 1 + length bs ≡ start + suc (length bs) = omega arith in
-    if_placed from above (start + suc (length bs)) (join_len (x ∷ bs) == 0) (cell start line x ∷ cells 0 (start + 1) (line_after line x) bs) (cells (join_len (x ∷ bs) - 1) (start + 1) (line_after line x) bs)
+    by_test (λ cs. Placed from above (start + suc (length bs)) (map (λ c. c.place) cs)) (join_len (x ∷ bs) == 0) (cell start line x ∷ cells 0 (start + 1) (line_after line x) bs) (cells (join_len (x ∷ bs) - 1) (start + 1) (line_after line x) bs)
     (a, omega arith, b, subst (λ n. Placed (start + 1) line n (map (λ c. c.place) (cells 0 (start + 1) (line_after line x) bs))) e (cells_placed 0 (start + 1) (line_after line x) (start + 1) line bs (omega arith) g))
     (subst (λ n. Placed from above n (map (λ c. c.place) (cells (join_len (x ∷ bs) - 1) (start + 1) (line_after line x) bs))) e (cells_placed (join_len (x ∷ bs) - 1) (start + 1) (line_after line x) from above bs (omega arith) (omega arith)))
 
@@ -100,14 +97,10 @@ weaken_tokens : (from line above end : ℕ) (ts : List Token) → above ≤ line
 weaken_tokens from line above end [] a h = h
 weaken_tokens from line above end (t ∷ ts) a h = (h.0, h.1, omega (arith, h.2), h.3)
 
-if_order : (from line end : ℕ) (b : Bool) (xs ys : List Token) → InOrder from line end xs → InOrder from line end ys → InOrder from line end (cond b xs ys)
-if_order from line end true xs ys a b = a
-if_order from line end false xs ys a b = b
-
 behind_order : (u : Token) (ts : List Token) (from line end : ℕ) → InOrder from line end (u ∷ ts) → InOrder from line end (joined_behind u ts)
 behind_order u [] from line end h = h
 behind_order u (t ∷ ts) from line end h =
-    if_order from line end (both_text u.what t.what) (joined_behind (glued u t) ts) (u ∷ joined_behind t ts)
+    by_test (InOrder from line end) (both_text u.what t.what) (joined_behind (glued u t) ts) (u ∷ joined_behind t ts)
     (behind_order (glued u t) ts from line end (h.0, omega (arith, h.1, h.3.0, h.3.1), h.2, weaken_tokens t.end t.line u.line end ts h.3.2 h.3.3))
     (h.0, h.1, h.2, behind_order t ts u.end u.line end h.3)
 

@@ -1,10 +1,9 @@
 -- What `piece_len` finds is the piece that stands at the start of a text, or shows that none does.
-use Rattle.std.proofs.Common.{◌≡◌, ℕ, suc, zero, ◌+◌, ◌-◌, ◌<◌, ◌≤◌, Bool, true, false, ◌&&◌, cond, leb, List, [], ◌∷◌, Option, Some, None, length, get_or, take, drop, map, refl, sym, ap, ◌∙◌, subst, arith, length-take-le, ⊎_elim, inr}
+use Rattle.std.proofs.Common.{◌≡◌, ℕ, suc, zero, ◌+◌, ◌-◌, ◌<◌, ◌≤◌, Bool, true, false, ◌&&◌, cond, leb, List, [], ◌∷◌, Option, Some, None, length, get_or, take, drop, refl, sym, ap, ◌∙◌, subst, arith, length-take-le, ⊎_elim, inr}
 use Rattle.std.proofs.lemmas.List.{drop-take, length-drop}
 use Rattle.std.proofs.lemmas.Bool.{false≢true, ne_eqb}
 use Rattle.std.proofs.lemmas.Bool.Decides.{nat_tests}
-use Rattle.std.specs.Prelude.{◌⊎◌, bytes_eq}
-use Rattle.std.proofs.lemmas.Slice.Eq.{bytes_eq-Decides}
+use Rattle.std.specs.Prelude.{◌⊎◌}
 use Rattle.cl_tree.specs.declared.pieces.Run.{Run}
 use Rattle.cl_tree.specs.declared.pieces.Closed.{Closed}
 use Rattle.cl_tree.specs.declared.pieces.Closed.TheVariants.{Comment, Quoted, Letter}
@@ -12,13 +11,11 @@ use Rattle.cl_tree.specs.declared.pieces.Opening.{Opening}
 use Rattle.cl_tree.specs.declared.pieces.Opening.TheVariants.{Runs, Closes, Space, Punct, Other}
 use Rattle.cl_tree.specs.declared.pieces.Rule.TheVariants.{E02, E03}
 use Rattle.cl_tree.specs.Letters.{is_bad}
-use Rattle.cl_tree.specs.Words.{Word, entry}
-use Rattle.cl_tree.specs.declared.token.Mark.{Mark}
-use Rattle.cl_tree.specs.declared.token.TheConstants.{MARKS}
 use Rattle.cl_tree.specs.Pieces.{go, by_state, runs, closes, opening_in, opening, opening_len, mark, has, shape, is_piece}
 use Rattle.cl_lex.specs.Scans.{span, closing, longest_mark}
 use Rattle.cl_tree.specs.Tokens.{IsTaken, IsStuck, IsUnclosed, IsNothing, strange, NoneBeyond, must_close}
 use Rattle.cl_lex.proofs.Shapes.{runs_span, runs_beyond, span_within, shuts, stays_open, opening_take, is_piece_at, runs_alone, space_alone, punct_alone, punct_good, other_bad, comment_star, bad_other}
+use Rattle.cl_lex.proofs.Marks.{more_bytes}
 
 -- to be taken: n bytes that are a piece, and no longer front is
 taken_of : (f : Bool) (n : ℕ) (text : List ℕ) → n ≤ length text → is_piece f (take n text) ≡ true → NoneBeyond f n text → (must_close (opening f text) ≡ true → 1 < n) → IsTaken f (take n text) text
@@ -100,8 +97,19 @@ close_piece_at f k text m h w o =
     let e : opening_len k + (m - opening_len k) ≡ m = omega arith in
     subst (λ n. is_piece f (take n text) ≡ closes k false (take (m - opening_len k) (drop (opening_len k) text))) e (close_piece f k text (m - opening_len k) (omega arith) (omega arith) o)
 
-pub close_taken : (f : Bool) (k : Closed) (text : List ℕ) (n : ℕ) → opening_len k ≤ length text → opening f text ≡ Closes k → closing k (opening_len k) false (drop (opening_len k) text) ≡ Some n → IsTaken f (take n text) text × (0 < n) × (n ≤ length text)
-close_taken f k text n l o e =
+not_star : (c : ℕ) → c ≡ 0 → c ≡ 42 → ⊥
+not_star c a b = omega arith
+
+pub opening_within : (f : Bool) (k : Closed) (text : List ℕ) → 0 < length text → opening f text ≡ Closes k → opening_len k ≤ length text
+opening_within f Quoted text h o = omega arith
+opening_within f Letter text h o = omega arith
+opening_within f Comment [] h o = absurd (omega arith)
+opening_within f Comment (b ∷ []) h o = absurd (not_star 0 refl (comment_star f b 0 o))
+opening_within f Comment (b ∷ c ∷ bs) h o = omega arith
+
+pub close_taken : (f : Bool) (k : Closed) (text : List ℕ) (n : ℕ) → 0 < length text → opening f text ≡ Closes k → closing k (opening_len k) false (drop (opening_len k) text) ≡ Some n → IsTaken f (take n text) text × (0 < n) × (n ≤ length text)
+close_taken f k text n h o e =
+    let l = opening_within f k text h o in
     let s = shuts k (opening_len k) false (drop (opening_len k) text) n e in
     let one = some_opening k in
     let two = at_most_two k in
@@ -112,23 +120,14 @@ close_taken f k text n l o e =
     let piece : is_piece f (take (opening_len k + s.j) text) ≡ true = close_piece f k text s.j (omega arith) (omega arith) o ∙ s.closed in
     (taken_of f n text (omega arith) (ap (λ m. is_piece f (take m text)) c ∙ piece) (λ m a b. close_piece_at f k text m (omega arith) b o ∙ s.longest (m - opening_len k) (omega arith) (omega arith)) (λ q. omega arith), omega arith, omega arith)
 
-pub close_stuck : (f : Bool) (k : Closed) (text : List ℕ) → opening_len k ≤ length text → opening f text ≡ Closes k → closing k (opening_len k) false (drop (opening_len k) text) ≡ None → IsUnclosed f text k
-close_stuck f k text l o e = record {
+pub close_stuck : (f : Bool) (k : Closed) (text : List ℕ) → 0 < length text → opening f text ≡ Closes k → closing k (opening_len k) false (drop (opening_len k) text) ≡ None → IsUnclosed f text k
+close_stuck f k text h o e = record {
   opens = o;
   none = λ m a b.
+      let l = opening_within f k text h o in
       let d : length (drop (opening_len k) text) ≡ length text - opening_len k = length-drop (opening_len k) text in
       close_piece_at f k text m a b o ∙ stays_open k (opening_len k) false (drop (opening_len k) text) e (m - opening_len k) (omega arith);
 }
-
-not_star : (c : ℕ) → c ≡ 0 → c ≡ 42 → ⊥
-not_star c a b = omega arith
-
-pub opening_within : (f : Bool) (k : Closed) (text : List ℕ) → 0 < length text → opening f text ≡ Closes k → opening_len k ≤ length text
-opening_within f Quoted text h o = omega arith
-opening_within f Letter text h o = omega arith
-opening_within f Comment [] h o = absurd (omega arith)
-opening_within f Comment (b ∷ []) h o = absurd (not_star 0 refl (comment_star f b 0 o))
-opening_within f Comment (b ∷ c ∷ bs) h o = omega arith
 
 -- a space is one byte
 space_shape : (m : ℕ) (text : List ℕ) → m ≤ length text → 1 < m → shape Space (take m text) ≡ false
@@ -144,29 +143,6 @@ pub space_taken : (f : Bool) (text : List ℕ) → 0 < length text → opening f
 space_taken f text h o = taken_of f 1 text (omega arith) (piece_of_one f text Space h (space_alone f _ _ o) ∙ space_one text h) (λ m a b. piece_from_two f m text Space a b o ∙ space_shape m text b a) (λ q. absurd (no_close _ _ o refl q))
 
 -- punctuators: none is longer than 3
--- a table has nothing under a word that is longer than its words
-abbrev are_short : {A : Type 0} → List (Word × A) → Bool
-are_short [] = true
-are_short (row ∷ rows) = leb (length row.0) 3 && are_short rows
-
-other_length : (a b : List ℕ) (t : Bool) → bytes_eq a b ≡ t → length a < length b → t ≡ false
-other_length a b true e h = let q : a ≡ b = (bytes_eq-Decides a b).0 e in let l : length a ≡ length b = ap length q in absurd (omega arith)
-other_length a b false e h = refl
-
-no_entry : {A : Type 0} (rows : List (Word × A)) (xs : List ℕ) → are_short rows ≡ true → 3 < length xs → entry rows xs ≡ None
-no_entry [] xs s h = refl
-no_entry (row ∷ rows) xs s h =
-    let short : length row.0 ≤ 3 = grind (arith, nat_tests) in
-    let rest : are_short rows ≡ true = grind (arith, nat_tests) in
-    rw (other_length row.0 xs (bytes_eq row.0 xs) refl (omega arith)) (no_entry rows xs rest h)
-
-abbrev rows : List (Word × Mark)
-rows = map (λ row. (row.0.now, row.1)) MARKS
-
-no_long_mark : (xs : List ℕ) → 3 < length xs → mark xs ≡ None
-unfolding mark
-no_long_mark xs h = no_entry rows xs refl h
-
 -- the first of 3, 2 and 1 that passes
 abbrev pick : ℕ → Bool → Bool → Bool → ℕ
 pick l t3 t2 t1 = cond (leb 3 l && t3) 3 (cond (leb 2 l && t2) 2 (cond (leb 1 l && t1) 1 0))
@@ -189,7 +165,7 @@ marks_beyond text zero h w = absurd (omega arith)
 marks_beyond text (suc zero) h w = beyond1 (length text) (has (mark (take 3 text))) (has (mark (take 2 text))) (has (mark (take 1 text))) h w
 marks_beyond text (suc (suc zero)) h w = beyond2 (length text) (has (mark (take 3 text))) (has (mark (take 2 text))) (has (mark (take 1 text))) h w
 marks_beyond text (suc (suc (suc zero))) h w = beyond3 (length text) (has (mark (take 3 text))) (has (mark (take 2 text))) (has (mark (take 1 text))) h w
-marks_beyond text (suc (suc (suc (suc m)))) h w = let l : length (take (suc (suc (suc (suc m)))) text) ≡ suc (suc (suc (suc m))) = length-take-le _ text w in ap has (no_long_mark (take (suc (suc (suc (suc m)))) text) (omega arith))
+marks_beyond text (suc (suc (suc (suc m)))) h w = let l : length (take (suc (suc (suc (suc m)))) text) ≡ suc (suc (suc (suc m))) = length-take-le _ text w in ap has (more_bytes (take (suc (suc (suc (suc m)))) text) (omega arith))
 
 mark_found : (text : List ℕ) (n : ℕ) → longest_mark text ≡ n → 0 < n → (n ≤ length text) × (has (mark (take n text)) ≡ true)
 unfolding longest_mark

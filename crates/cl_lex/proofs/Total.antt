@@ -12,7 +12,7 @@ use Rattle.cl_tree.specs.Joins.{bytes_of, places_of}
 use Rattle.cl_tree.specs.Pieces.{opening, opening_len}
 use Rattle.cl_tree.specs.Tokens.{Before, at_start, behind, flaw, IsTaken, IsStuck, IsCut, IsFault, IsLexed, FailsAt, HasAnswer, unfinished, strange, number_of, place_at, joined, tokens_from}
 use Rattle.cl_lex.specs.Scans.{span, closing, longest_mark}
-use Rattle.cl_lex.proofs.Taken.{run_taken, close_taken, close_stuck, opening_within, space_taken, punct_taken, run_within, punct_none, other_none}
+use Rattle.cl_lex.proofs.Taken.{run_taken, close_taken, close_stuck, space_taken, punct_taken, run_within, punct_none, other_none}
 
 -- how long the piece is at the start of a text, and why none is there
 abbrev some_len : ℕ → Option ℕ
@@ -37,9 +37,9 @@ abbrev IsFound : Bool → List ℕ → Option ℕ → Rule × ℕ → Type 0
 IsFound f text None e = IsStuck f text e.0 e.1
 IsFound f text (Some n) e = IsTaken f (take n text) text × (0 < n) × (n ≤ length text)
 
-close_found : (f : Bool) (k : Closed) (text : List ℕ) (x : Option ℕ) → opening_len k ≤ length text → opening f text ≡ Closes k → closing k (opening_len k) false (drop (opening_len k) text) ≡ x → IsFound f text x (unfinished k text)
-close_found f k text (Some n) l o e = close_taken f k text n l o e
-close_found f k text None l o e = inl (k, close_stuck f k text l o e, refl)
+close_found : (f : Bool) (k : Closed) (text : List ℕ) (x : Option ℕ) → 0 < length text → opening f text ≡ Closes k → closing k (opening_len k) false (drop (opening_len k) text) ≡ x → IsFound f text x (unfinished k text)
+close_found f k text (Some n) h o e = close_taken f k text n h o e
+close_found f k text None h o e = inl (k, close_stuck f k text h o e, refl)
 
 punct_found : (f : Bool) (text : List ℕ) (n : ℕ) → 0 < length text → opening f text ≡ Punct → longest_mark text ≡ n → IsFound f text (some_len n) (strange text)
 punct_found f text zero h o e = let s = punct_none f text h o e in inr (s, refl)
@@ -47,7 +47,7 @@ punct_found f text (suc n) h o e = let t = punct_taken f text (suc n) o e (omega
 
 found_by : (f : Bool) (text : List ℕ) (o : Opening) → 0 < length text → opening f text ≡ o → IsFound f text (len_of o text) (stuck_of o text)
 found_by f text (Runs r) h o = let w = run_within f r text h o in (run_taken f r text _ h o refl, omega arith, w)
-found_by f text (Closes k) h o = close_found f k text _ (opening_within f k text h o) o refl
+found_by f text (Closes k) h o = close_found f k text _ h o refl
 found_by f text Space h o = (space_taken f text h o, omega arith, omega arith)
 found_by f text Punct h o = punct_found f text _ h o refl
 found_by f text Other h o = inr (other_none f text h o, refl)

@@ -77,3 +77,5 @@ directive_fails = all_are.10
 
 pub escape_fails : LexFails (codes "'\\777'") 7 1
 escape_fails = all_are.11
+
+pub ruleset failures = (byte_fails, sign_fails, string_fails, directive_fails, escape_fails)

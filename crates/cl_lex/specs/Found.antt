@@ -1,6 +1,7 @@
 -- What the lexer finds at one place.
 use Rattle.std.specs.Prelude.{◌≡◌, ℕ, ◌<◌, ◌≤◌, Bool, List, None, length, take}
-use Rattle.cl_tree.specs.Tokens.{Before, Definitions, IsTaken, IsCut, IsFault, FailsAt, LexFails, at_start, flaw, fresh_after, piece_meaning, tokens_from}
+use Rattle.cl_tree.specs.Joins.{bytes_of, places_of}
+use Rattle.cl_tree.specs.Tokens.{Before, Definitions, IsTaken, IsCut, IsFault, FailsAt, at_start, flaw, fresh_after, piece_meaning, tokens_from}
 use Rattle.cl_tree.specs.declared.pieces.PieceMeaning.{PieceMeaning}
 use Rattle.cl_tree.specs.declared.pieces.Place.{Place}
 use Rattle.cl_tree.specs.declared.token.Token.{Token}
@@ -39,8 +40,7 @@ IsFailure text places (Rule number line) = FailsAt text places number line
 
 -- what an Err says of a source
 abbrev pub IsFailureOf : List ℕ → LexStop → Type 0
-IsFailureOf source NoMemory = Unit {0}
-IsFailureOf source (Rule number line) = LexFails source number line
+IsFailureOf source = IsFailure (bytes_of source) (places_of source)
 
 -- unless memory ran out, the Err is this one
 abbrev pub IsStop : ℕ → ℕ → LexStop → Type 0

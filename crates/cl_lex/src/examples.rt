@@ -42,7 +42,7 @@ pub fn label_text()
 {}
 
 /// The rules, each at its first failing place.
-#[tactic(auto, using(crate::proofs::Worked::byte_fails, crate::proofs::Worked::sign_fails, crate::proofs::Worked::string_fails, crate::proofs::Worked::directive_fails, crate::proofs::Worked::escape_fails))]
+#[tactic(auto, using(crate::proofs::Worked::failures))]
 pub fn refusals()
     ensures byte { LexFails (7 ∷ []) 2 1 }
     ensures sign { LexFails (codes "a\n@") 3 2 }

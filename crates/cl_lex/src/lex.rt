@@ -1,11 +1,15 @@
 //! The tokens of a source.
 
-ghost use Rattle.std.specs.Prelude.{◌≡◌, true, ℕ, ◌+◌, ◌-◌, ◌<◌, ◌≤◌, ◌^◌, List, [], ◌++◌, length, drop, take, nat_eq, IfOk, IfErr, OnOk, MatchResult};
+ghost use Rattle.std.specs.Prelude.{◌≡◌, true, ℕ, ◌+◌, ◌-◌, ◌<◌, ◌≤◌, ◌^◌, List, [], ◌++◌, length, drop, take, nat_eq};
+ghost use Rattle.std.specs.Prelude.{IfOk, IfErr, OnOk, MatchResult};
 ghost use Rattle.std.specs.HashMap.{get};
 ghost use Rattle.std.specs.Cmp.Lexicographic.{pointwise};
 ghost use Rattle.std.specs.Map.{update};
 ghost use Rattle.std.specs.Str.{bytes_eq};
-ghost use Rattle.cl_tree.specs.Tokens.{Before, IsTaken, IsStuck, IsLexed, FailsAt, AreTokens, LexFails, HasAnswer, HasOneAnswer, flaw, flaw_as, definition_flaw, meant, replaced, token_as, definitions_after, number_of, place_at, unfinished, to_line_end};
+ghost use Rattle.cl_base.specs.declared.limits.TheConstants.{SOURCE_BYTES};
+ghost use Rattle.cl_tree.specs.Tokens.{Before, IsTaken, IsStuck, IsLexed, FailsAt, AreTokens, LexFails, HasAnswer};
+ghost use Rattle.cl_tree.specs.Tokens.{HasOneAnswer, flaw, flaw_as, definition_flaw, meant, replaced, token_as};
+ghost use Rattle.cl_tree.specs.Tokens.{definitions_after, number_of, place_at, unfinished, to_line_end};
 ghost use Rattle.std.specs.List.{prefix_len};
 ghost use Rattle.std.specs.Prelude.{not};
 ghost use Rattle.cl_tree.specs.Letters.{is_newline};
@@ -14,14 +18,13 @@ ghost use Rattle.cl_lex.specs.Found.{before, IsPieceOf, IsHalt, AreLexed, IsFail
 ghost use Rattle.cl_tree.specs.declared.token.Token.{Token};
 ghost use Rattle.cl_lex.specs.declared.lex.LexStop.TheVariants as stop;
 
-use crate::directives::first_bad;
 use crate::meaning::{fresh_after, piece_meaning};
 use crate::passes::join_strings;
 use crate::pieces::{Halt, Piece};
 use crate::scan::{closing, mark_len, opening, opening_len, run_len};
 use crate::text::unjoin;
-use cl_base::limits::SOURCE_BYTES;
 use cl_base::name::Name;
+use cl_literals::directives::first_bad;
 use cl_tree::letters::is_newline;
 use cl_tree::pieces::{Closed, Literal, Opening, PieceMeaning, Place, Rule};
 use cl_tree::token::{Lexeme, Token};
@@ -145,7 +148,8 @@ fn piece(
 ) -> Result<Piece, Halt>
     requires some { 0 < length text.now }
     requires small { length text.now < 2 ^ 62 }
-    ensures good { IfOk result (λ p. IsPieceOf (before fresh (λ q. get (pointwise nat_eq) defined.now q)) p.len p.fresh p.found text.now) }
+    ensures good { IfOk result (λ p.
+        IsPieceOf (before fresh (λ q. get (pointwise nat_eq) defined.now q)) p.len p.fresh p.found text.now) }
     ensures halt { IfErr result (λ e. IsHalt (before fresh (λ q. get (pointwise nat_eq) defined.now q)) text.now e) }
 {
     let len = match piece_len(fresh, text) {
@@ -174,8 +178,10 @@ fn piece_at(
 ) -> Result<Piece, Halt>
     requires some { at < length text.now }
     requires small { length text.now < 2 ^ 62 }
-    ensures good { IfOk result (λ p. IsPieceOf (before fresh (λ q. get (pointwise nat_eq) defined.now q)) p.len p.fresh p.found (drop at text.now)) }
-    ensures halt { IfErr result (λ e. IsHalt (before fresh (λ q. get (pointwise nat_eq) defined.now q)) (drop at text.now) e) }
+    ensures good { IfOk result (λ p.
+        IsPieceOf (before fresh (λ q. get (pointwise nat_eq) defined.now q)) p.len p.fresh p.found (drop at text.now)) }
+    ensures halt { IfErr result (λ e.
+        IsHalt (before fresh (λ q. get (pointwise nat_eq) defined.now q)) (drop at text.now) e) }
 {
     piece(alloc, fresh, defined, &text[at..])
 }
@@ -208,7 +214,9 @@ fn define(
     name: Name,
     literal: Literal,
 ) -> Result<(), AllocError>
-    ensures { OnOk result ((q : List ℕ) → get (pointwise nat_eq) defined.new q ≡ update bytes_eq (λ n. get (pointwise nat_eq) defined.old n) name (Some literal) q) }
+    ensures { OnOk result ((q : List ℕ) →
+        get (pointwise nat_eq) defined.new q ≡
+        update bytes_eq (λ n. get (pointwise nat_eq) defined.old n) name (Some literal) q) }
 {
     defined.insert(name, literal)?;
     Ok(())
@@ -225,8 +233,10 @@ fn add(
 ) -> Result<(), AllocError>
     requires some { 0 < len }
     requires within { at + len ≤ length places.now }
-    ensures tokens { OnOk result (out.new.items ≡ out.old.items ++ token_as (λ q. get (pointwise nat_eq) defined.old q) found places.now at len) }
-    ensures definitions { OnOk result ((q : List ℕ) → get (pointwise nat_eq) defined.new q ≡ definitions_after (λ n. get (pointwise nat_eq) defined.old n) found q) }
+    ensures tokens { OnOk result (out.new.items ≡
+        out.old.items ++ token_as (λ q. get (pointwise nat_eq) defined.old q) found places.now at len) }
+    ensures definitions { OnOk result ((q : List ℕ) →
+        get (pointwise nat_eq) defined.new q ≡ definitions_after (λ n. get (pointwise nat_eq) defined.old n) found q) }
 {
     match found {
         PieceMeaning::Is(what) => {
@@ -316,41 +326,26 @@ fn lex_joined(alloc: Global, text: &[u8], places: &[Place]) -> Result<Vec<Token>
     Ok(join_strings(alloc, tokens)?)
 }
 
-/// The tokens of a text without joins, and no others.
-fn lex_whole(alloc: Global, text: &[u8], places: &[Place]) -> Result<Vec<Token>, LexStop>
-    requires same { length text.now ≡ length places.now }
-    requires small { length text.now < 2 ^ 62 }
-    ensures found { IfOk result (λ v. IsLexed text.now places.now v.items) }
-    ensures fails { IfErr result (λ e. IsFailure text.now places.now e) }
-    ensures all_found { (ts : List Token) → IsLexed text.now places.now ts → MatchResult result (λ v. v.items ≡ ts) (λ e. e ≡ stop.NoMemory) }
-    ensures all_fails { (rule line : ℕ) → FailsAt text.now places.now rule line → MatchResult result (λ v. ⊥) (λ e. IsStop rule line e) }
-{
-    lex_joined(alloc, text, places)
-}
-
-// The limit that the contract below writes out.
-const _: () = prove!(SOURCE_BYTES == 1_048_576);
-
 fn lex_source(alloc: Global, bytes: &[u8]) -> Result<Vec<Token>, LexStop>
-    requires { length bytes.now ≤ 1048576 }
+    requires { length bytes.now ≤ SOURCE_BYTES }
     ensures found { IfOk result (λ v. AreTokens bytes.now v.items) }
     ensures fails { IfErr result (λ e. IsFailureOf bytes.now e) }
-    ensures all_found { (ts : List Token) → AreTokens bytes.now ts → MatchResult result (λ v. v.items ≡ ts) (λ e. e ≡ stop.NoMemory) }
-    ensures all_fails { (rule line : ℕ) → LexFails bytes.now rule line → MatchResult result (λ v. ⊥) (λ e. IsStop rule line e) }
 {
     let text = unjoin(alloc, bytes)?;
-    lex_whole(alloc, text.bytes.as_slice(), text.places.as_slice())
+    lex_joined(alloc, text.bytes.as_slice(), text.places.as_slice())
 }
 
 /// The tokens of a source, or the lexical rule that its first failing place breaks, and the line of that place.
 pub fn lex(alloc: Global, bytes: &[u8]) -> Result<Vec<Token>, LexStop>
-    requires { length bytes.now ≤ 1048576 }
+    requires { length bytes.now ≤ SOURCE_BYTES }
     // What is answered is so.
     ensures found { IfOk result (λ v. AreTokens bytes.now v.items) }
     ensures fails { IfErr result (λ e. IsFailureOf bytes.now e) }
     // What is so is answered, unless memory runs out.
-    ensures all_found { (ts : List Token) → AreTokens bytes.now ts → MatchResult result (λ v. v.items ≡ ts) (λ e. e ≡ stop.NoMemory) }
-    ensures all_fails { (rule line : ℕ) → LexFails bytes.now rule line → MatchResult result (λ v. ⊥) (λ e. IsStop rule line e) }
+    ensures all_found { (ts : List Token) → AreTokens bytes.now ts →
+        MatchResult result (λ v. v.items ≡ ts) (λ e. e ≡ stop.NoMemory) }
+    ensures all_fails { (rule line : ℕ) → LexFails bytes.now rule line →
+        MatchResult result (λ v. ⊥) (λ e. IsStop rule line e) }
     // The tokens stand as the source has them.
     ensures in_order { IfOk result (λ v. AreInOrder bytes.now v.items) }
 {

@@ -2,12 +2,14 @@
 
 ghost use Rattle.std.specs.Prelude.{◌≡◌, ◌^◌, ◌<◌, ◌≤◌, true, length, IfOk};
 ghost use Rattle.cl_tree.specs.Pieces.{mark, is_piece};
-ghost use Rattle.cl_tree.specs.Tokens.{literal_meaning, number_meaning, string_meaning, mark_as, piece_meaning, fresh_after};
+ghost use Rattle.cl_tree.specs.Tokens.{literal_meaning, number_meaning, string_meaning, mark_as, piece_meaning};
+ghost use Rattle.cl_tree.specs.Tokens.{fresh_after};
 
-use crate::directives::{allowed, directive, name_of};
-use crate::literals::{inside, integer, is_floating, letter, unescape};
-use crate::scan::{byte_at, mark, opening};
+use crate::scan::{mark, opening};
 use cl_base::name::NoMemory;
+use cl_literals::directives::{allowed, directive, name_of};
+use cl_literals::literals::{inside, integer, is_floating, letter, unescape};
+use cl_literals::slices::byte_at;
 use cl_tree::bytes::Bytes;
 use cl_tree::letters::is_newline;
 use cl_tree::pieces::{Closed, Literal, LiteralValue, Opening, PieceMeaning, Rule, Run};
@@ -59,7 +61,7 @@ fn mark_meaning(text: &[u8]) -> PieceMeaning
 }
 
 /// What a piece is.
-#[tactic(auto, using(crate::proofs::Words::letters_words, crate::proofs::Shapes::piece_closed), unfolding(cl_tree::specs::Tokens::piece_meaning))]
+#[tactic(auto, using(crate::proofs::Words::pieces), unfolding(cl_tree::specs::Tokens::piece_meaning))]
 pub fn piece_meaning(alloc: Global, fresh: bool, text: &[u8]) -> Result<PieceMeaning, NoMemory>
     requires small { length text.now < 2 ^ 62 }
     requires piece { is_piece fresh text.now ≡ true }

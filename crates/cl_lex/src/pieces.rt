@@ -4,7 +4,7 @@ use cl_base::name::NoMemory;
 use cl_tree::pieces::{PieceMeaning, Rule};
 
 /// A piece that breaks no rule: how long it is, whether a piece behind it stands first in its line, and what it is.
-#[derive(Debug, Drop)]
+#[derive(Drop)]
 pub struct Piece {
     pub len: usize,
     pub fresh: bool,
@@ -12,7 +12,7 @@ pub struct Piece {
 }
 
 /// Why no such piece stands here: the rule, and at which byte from here.
-#[derive(Debug, Drop)]
+#[derive(Drop)]
 pub enum Halt {
     Memory,
     Fault(Rule, usize),

@@ -1,13 +1,13 @@
 //! How far the piece goes that a text begins with.
-ghost use Rattle.std.specs.Prelude.{◌≡◌, false, ◌+◌, ◌<◌, ◌≤◌, length, drop, map, slice_index};
-ghost use Rattle.cl_tree.specs.Words.{entry};
-ghost use Rattle.cl_tree.specs.Pieces.{first_opening, opening_of, opening_in, opening, is_exponent_letter, go, step, opening_len, mark};
+ghost use Rattle.std.specs.Prelude.{◌≡◌, ◌∷◌, [], false, ◌+◌, ◌<◌, ◌≤◌, length, drop, slice_index};
+ghost use Rattle.cl_tree.specs.Pieces.{first_opening, opening_of, opening_in, opening, is_exponent_letter, go, step};
+ghost use Rattle.cl_tree.specs.Pieces.{opening_len, mark};
 ghost use Rattle.cl_lex.specs.Scans.{span, closing, longest_mark};
 
+use cl_literals::slices::byte_at;
 use cl_tree::letters::{is_bad, is_blank, is_digit, is_letter, is_newline, is_word};
 use cl_tree::pieces::{Closed, Next, Opening, Run};
-use cl_tree::token::{MARKS, Mark};
-use cl_tree::words::same;
+use cl_tree::token::Mark;
 
 #[tactic(auto, unfolding(cl_tree::specs::Pieces::first_opening))]
 fn first_opening(b: u8) -> Opening
@@ -43,13 +43,6 @@ fn opening_of(b: u8, c: u8) -> Opening
     } else {
         first_opening(b)
     }
-}
-
-/// The byte at i, or 0 past the end.
-pub fn byte_at(text: &[u8], i: usize) -> u8
-    ensures { result ≡ slice_index text.now i }
-{
-    if i < text.len() { text[i] } else { 0 }
 }
 
 #[tactic(auto, unfolding(cl_tree::specs::Pieces::opening_in))]
@@ -99,36 +92,25 @@ fn go(run: Run, a: u8, b: u8) -> Option<u8>
 fn step(kind: Closed, state: bool, b: u8) -> Next
     ensures { result ≡ step kind state b }
 {
-    match kind {
+    let quote = match kind {
         Closed::Comment => {
-            if state && b == b'/' {
+            return if state && b == b'/' {
                 Next::Shut
             } else {
                 Next::More(b == b'*')
-            }
+            };
         }
-        Closed::Quoted => {
-            if is_newline(b) {
-                Next::Broken
-            } else if state {
-                Next::More(false)
-            } else if b == b'"' {
-                Next::Shut
-            } else {
-                Next::More(b == b'\\')
-            }
-        }
-        Closed::Letter => {
-            if is_newline(b) {
-                Next::Broken
-            } else if state {
-                Next::More(false)
-            } else if b == b'\'' {
-                Next::Shut
-            } else {
-                Next::More(b == b'\\')
-            }
-        }
+        Closed::Quoted => b'"',
+        Closed::Letter => b'\'',
+    };
+    if is_newline(b) {
+        Next::Broken
+    } else if state {
+        Next::More(false)
+    } else if b == quote {
+        Next::Shut
+    } else {
+        Next::More(b == b'\\')
     }
 }
 
@@ -178,24 +160,96 @@ pub fn closing(kind: Closed, text: &[u8], from: usize) -> Option<usize>
     None
 }
 
-fn mark_in(mut table: &[(&[u8], Mark)], text: &[u8]) -> Option<Mark>
-    ensures { result ≡ entry (map (λ row. (row.0.now, row.1)) table.entry.now) text.now }
+/// The punctuator of one byte.
+#[tactic(auto, unfolding(cl_tree::specs::Pieces::mark))]
+fn mark_of_one(a: u8) -> Option<Mark>
+    ensures { result ≡ mark (a ∷ []) }
 {
-    while let [first, rest @ ..] = table {
-        if same(first.0, text) {
-            return Some(first.1);
-        }
-        table = rest;
+    match a {
+        b'(' => Some(Mark::OpenParen),
+        b')' => Some(Mark::CloseParen),
+        b'[' => Some(Mark::OpenBracket),
+        b']' => Some(Mark::CloseBracket),
+        b'{' => Some(Mark::OpenBrace),
+        b'}' => Some(Mark::CloseBrace),
+        b';' => Some(Mark::Semicolon),
+        b',' => Some(Mark::Comma),
+        b'.' => Some(Mark::Dot),
+        b'=' => Some(Mark::Assign),
+        b'+' => Some(Mark::Plus),
+        b'-' => Some(Mark::Minus),
+        b'*' => Some(Mark::Star),
+        b'/' => Some(Mark::Slash),
+        b'%' => Some(Mark::Percent),
+        b'~' => Some(Mark::Tilde),
+        b'!' => Some(Mark::Bang),
+        b'&' => Some(Mark::Amp),
+        b'|' => Some(Mark::Bar),
+        b'^' => Some(Mark::Caret),
+        b'<' => Some(Mark::Less),
+        b'>' => Some(Mark::Greater),
+        b'?' => Some(Mark::Question),
+        b':' => Some(Mark::Colon),
+        b'#' => Some(Mark::Hash),
+        _ => None,
     }
-    None
 }
 
-/// The punctuator that these bytes are.
+/// The punctuator of two bytes.
 #[tactic(auto, unfolding(cl_tree::specs::Pieces::mark))]
+fn mark_of_two(a: u8, b: u8) -> Option<Mark>
+    ensures { result ≡ mark (a ∷ b ∷ []) }
+{
+    match (a, b) {
+        (b'-', b'>') => Some(Mark::Arrow),
+        (b'+', b'=') => Some(Mark::PlusAssign),
+        (b'-', b'=') => Some(Mark::MinusAssign),
+        (b'*', b'=') => Some(Mark::StarAssign),
+        (b'/', b'=') => Some(Mark::SlashAssign),
+        (b'%', b'=') => Some(Mark::PercentAssign),
+        (b'&', b'=') => Some(Mark::AmpAssign),
+        (b'|', b'=') => Some(Mark::BarAssign),
+        (b'^', b'=') => Some(Mark::CaretAssign),
+        (b'+', b'+') => Some(Mark::PlusPlus),
+        (b'-', b'-') => Some(Mark::MinusMinus),
+        (b'<', b'<') => Some(Mark::LeftShift),
+        (b'>', b'>') => Some(Mark::RightShift),
+        (b'<', b'=') => Some(Mark::AtMost),
+        (b'>', b'=') => Some(Mark::AtLeast),
+        (b'=', b'=') => Some(Mark::Equal),
+        (b'!', b'=') => Some(Mark::Unequal),
+        (b'&', b'&') => Some(Mark::AmpAmp),
+        (b'|', b'|') => Some(Mark::BarBar),
+        (b'#', b'#') => Some(Mark::HashHash),
+        _ => None,
+    }
+}
+
+/// The punctuator of three bytes.
+#[tactic(auto, unfolding(cl_tree::specs::Pieces::mark))]
+fn mark_of_three(a: u8, b: u8, c: u8) -> Option<Mark>
+    ensures { result ≡ mark (a ∷ b ∷ c ∷ []) }
+{
+    match (a, b, c) {
+        (b'.', b'.', b'.') => Some(Mark::Ellipsis),
+        (b'<', b'<', b'=') => Some(Mark::LeftAssign),
+        (b'>', b'>', b'=') => Some(Mark::RightAssign),
+        _ => None,
+    }
+}
+
+/// The punctuator that these bytes are. The table itself is not searched, since that made the lexer three times as slow
+/// on punctuators.
+#[tactic(auto, using(crate::proofs::Marks::whole_texts))]
 pub fn mark(text: &[u8]) -> Option<Mark>
     ensures { result ≡ mark text.now }
 {
-    mark_in(&MARKS, text)
+    match text {
+        [a] => mark_of_one(*a),
+        [a, b] => mark_of_two(*a, *b),
+        [a, b, c] => mark_of_three(*a, *b, *c),
+        _ => None,
+    }
 }
 
 /// How long the longest punctuator is that a text begins with.

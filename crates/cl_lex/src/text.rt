@@ -7,7 +7,7 @@ use cl_tree::pieces::Place;
 use std::alloc::{AllocError, Global};
 
 /// A text, and where each of its bytes stands in the source.
-#[derive(Debug, Drop)]
+#[derive(Drop)]
 pub struct Unjoined {
     pub bytes: Vec<u8>,
     pub places: Vec<Place>,

@@ -1,6 +1,5 @@
 -- Frames: what crosses, as bytes. A frame is a header and a payload, all numbers big endian. The journal is the frames of what crossed.
-use Rattle.std.specs.Prelude.{ℕ, zero, suc, ◌+◌, ◌*◌, ◌/◌, ◌%◌, Bool, true, false, ◌&&◌, ◌==◌, ℤ, pos, List, [], ◌∷◌, ◌++◌, map, length, drop, Option, Some, None, if◌then◌else◌, bytes_eq}
-use Rattle.std.specs.List.{flat_map}
+use Rattle.std.specs.Prelude.{ℕ, zero, suc, ◌+◌, ◌*◌, ◌/◌, ◌%◌, Bool, true, false, ◌&&◌, ◌==◌, ℤ, pos, List, [], ◌∷◌, ◌++◌, map, length, nat_lt, drop, Option, Some, None, if◌then◌else◌, bytes_eq}
 use Rattle.byteorder.specs.Endian.{big_bytes, big_from, big_number}
 use Rattle.cl_tree.specs.declared.kinds.IntKind.{IntKind}
 use Rattle.cl_tree.specs.Arithmetic.{value, residue}
@@ -65,10 +64,10 @@ abbrev pub typ_of : ℕ → Bool → ℕ
 typ_of k false = 2 * k + 1
 typ_of k true = 2 * k + 2
 
-abbrev pub kind_number : {A : Type 0} → Content A → ℕ
-kind_number (holds xs) = 0
-kind_number blocked = 1
-kind_number broken = 2
+abbrev pub content_number : {A : Type 0} → Content A → ℕ
+content_number (holds xs) = 0
+content_number blocked = 1
+content_number broken = 2
 
 -- ---- bytes
 
@@ -79,13 +78,15 @@ content_bytes kinds broken = []
 
 -- a header and a payload: mux and sec, which are one number here, typ, turn, kind, the length of the payload, and the payload
 unfoldable pub frame_bytes : ℕ → ℕ → ℕ → ℕ → List ℕ → List ℕ
-frame_bytes mux typ turn kind payload =
-    big_bytes 4 mux ++ (big_bytes 4 mux ++ (big_bytes 4 typ ++ (big_bytes 8 turn ++ (big_bytes 1 kind ++ (big_bytes 4 (length payload) ++ payload)))))
+frame_bytes mux typ turn code payload =
+    big_bytes 4 mux ++ (big_bytes 4 mux ++ (big_bytes 4 typ ++
+    (big_bytes 8 turn ++ (big_bytes 1 code ++ (big_bytes 4 (length payload) ++ payload)))))
 
 abbrev pub said_bytes : Source → ℕ → Said → List ℕ
 said_bytes source turn says_stop = frame_bytes 0 0 turn 3 []
 said_bytes source turn (message k reply content) =
-    frame_bytes (mux_of source.rows k) (typ_of k reply) turn (kind_number content) (content_bytes (kinds_at source source.rows k reply) content)
+    frame_bytes (mux_of source.rows k) (typ_of k reply) turn (content_number content)
+    (content_bytes (kinds_at source source.rows k reply) content)
 
 -- The bytes of a frame.
 unfoldable pub bytes_of : Source → Frame → List ℕ
@@ -99,19 +100,27 @@ content_in (suc zero) kinds payload = blocked
 content_in (suc (suc n)) kinds payload = broken
 
 abbrev pub message_in : Source → ℕ → Bool → ℕ → List ℕ → Said
-message_in source k reply kind payload = message k reply (content_in kind (kinds_at source source.rows k reply) payload)
+message_in source k reply code payload = message k reply (content_in code (kinds_at source source.rows k reply) payload)
 
 abbrev pub said_in : Source → ℕ → ℕ → List ℕ → Said
-said_in source zero kind payload = says_stop
-said_in source (suc n) kind payload = message_in source (n / 2) (n % 2 == 1) kind payload
+said_in source zero code payload = says_stop
+said_in source (suc n) code payload = message_in source (n / 2) (n % 2 == 1) code payload
 
 -- the frame that the numbers of a header and a payload name
 unfoldable pub frame_named : Source → List ℕ → Frame
 frame_named source bytes = frame (big_from 12 8 bytes) (said_in source (big_from 8 4 bytes) (big_from 20 1 bytes) (drop 25 bytes))
 
--- Bytes are read as the frame that they name, if they are just its bytes; all others are no frame.
+-- what a frame says is of a row that is there
+abbrev pub is_known : Source → Said → Bool
+is_known source says_stop = true
+is_known source (message k reply content) = nat_lt k (length source.rows)
+
+-- Bytes are read as the frame that they name, if it is of a row that is there and they are just its bytes; all others
+-- are no frame.
 unfoldable pub frame_in : Source → List ℕ → Option Frame
-frame_in source bytes = if bytes_eq (bytes_of source (frame_named source bytes)) bytes then Some (frame_named source bytes) else None
+frame_in source bytes =
+    if is_known source (frame_named source bytes).said && bytes_eq (bytes_of source (frame_named source bytes)) bytes
+    then Some (frame_named source bytes) else None
 
 -- ---- the journal
 

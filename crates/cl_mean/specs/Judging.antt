@@ -1,9 +1,8 @@
 -- Laws, and what they do to what crosses between levels.
-use Rattle.std.specs.Prelude.{ℕ, suc, ◌-◌, Bool, true, false, not, ◌==◌, ◌&&◌, ℤ, List, [], ◌∷◌, map, Option, Some, None, slice_set, if◌then◌else◌}
+use Rattle.std.specs.Prelude.{ℕ, ◌-◌, Bool, true, false, not, ◌==◌, ◌&&◌, ℤ, List, [], ◌∷◌, map, Option, Some, None, slice_set, if◌then◌else◌}
 use Rattle.std.specs.List.{flat_map, list_all}
 use Rattle.cl_mean.specs.declared.labels.Operation.{Operation}
 use Rattle.cl_mean.specs.declared.labels.Operation.TheVariants as operation
-use Rattle.cl_mean.specs.declared.labels.Direction.TheVariants.{Egress}
 use Rattle.cl_mean.specs.declared.labels.RedactField.{RedactField}
 use Rattle.cl_mean.specs.declared.labels.Entry.{Entry}
 use Rattle.cl_mean.specs.declared.law.Asked.{Asked}
@@ -44,8 +43,9 @@ abbrev pub is_same_way : Bool → Bool → Bool
 is_same_way true reply = reply
 is_same_way false reply = not reply
 
-unfoldable pub matches : Rule → Asked → Bool
-matches r asked = is_for r.from asked.from && (is_for r.to asked.to && (is_for r.function asked.function && is_same_way r.reply asked.reply))
+unfoldable pub is_matched : Rule → Asked → Bool
+is_matched r asked =
+    is_for r.from asked.from && (is_for r.to asked.to && (is_for r.function asked.function && is_same_way r.reply asked.reply))
 
 -- what is judged: the ruling, the law from then on, the values
 pub record Judged (L A : Type 0) : Type 0 where
@@ -66,7 +66,8 @@ passed_by r j = record { ruling = j.ruling; law = r ∷ j.law; values = j.values
 -- the first rule that matches decides; where none does the values pass
 unfoldable pub rules_judge : {A : Type 0} → (ℤ → A) → List Rule → Asked → List A → Judged (List Rule) A
 rules_judge put [] asked vs = record { ruling = ruling.Pass; law = []; values = vs }
-rules_judge put (r ∷ rs) asked vs = if matches r asked then acted_first r rs (act_on put r.act vs) else passed_by r (rules_judge put rs asked vs)
+rules_judge put (r ∷ rs) asked vs =
+    if is_matched r asked then acted_first r rs (act_on put r.act vs) else passed_by r (rules_judge put rs asked vs)
 
 abbrev pub of_law : {A : Type 0} → Judged (List Rule) A → Judged Law A
 of_law j = record { ruling = j.ruling; law = record { rules = j.law }; values = j.values }
@@ -126,17 +127,7 @@ directive_rule e payload reply = record { from = None; to = None; function = Non
 unfoldable pub directive : Entry → Shape → Bool → Law
 directive e payload reply = record { rules = directive_rule e payload reply ∷ [] }
 
-abbrev pub no_entry : Entry
-no_entry = record { remote = 0; direction = Egress; operation = operation.Block; redact = []; oneway = false }
-
 -- the entry of a label for a level
-unfoldable pub entry_for : List Entry → ℕ → Entry
-entry_for [] level = no_entry
-entry_for (e ∷ es) level = if e.remote == level then e else entry_for es level
-
--- ---- the rule that decides
-
--- the place of the first rule that matches, counted from one on
-unfoldable pub first_match : ℕ → List Rule → Asked → Option ℕ
-first_match k [] asked = None
-first_match k (r ∷ rs) asked = if matches r asked then Some k else first_match (suc k) rs asked
+unfoldable pub entry_for : List Entry → ℕ → Option Entry
+entry_for [] level = None
+entry_for (e ∷ es) level = if e.remote == level then Some e else entry_for es level

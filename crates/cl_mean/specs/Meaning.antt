@@ -4,15 +4,15 @@ use Rattle.cl_mean.specs.declared.law.Law.{Law}
 use Rattle.cl_mean.specs.declared.outcome.End.{End}
 use Rattle.cl_mean.specs.declared.outcome.End.TheVariants.{Exit, Trapped}
 use Rattle.cl_mean.specs.declared.checked.Checked.{Checked}
-use Rattle.cl_mean.specs.Value.{Labelled, bare, carries_just, each, sole}
+use Rattle.cl_mean.specs.Value.{Labelled, bare, carries_just, each}
 use Rattle.cl_mean.specs.Shape.{nothing, zero_of}
 use Rattle.cl_mean.specs.State.{Object, LevelState, State}
 use Rattle.cl_mean.specs.Source.{Definition, Source, Static, source_of, main_of}
-use Rattle.cl_mean.specs.Course.{Course, comes, stops, asks, Step, Stop, traps, unbounded, meaningless, pure, halted, left_by, ◌>>=◌, ◌>>◌}
+use Rattle.cl_mean.specs.Course.{Course, comes, stops, asks, Computation, Stop, traps, unbounded, meaningless, pure, halted, the_number, state_of, ◌>>=◌, ◌>>◌}
 use Rattle.cl_mean.specs.Evaluation.{Calls}
 use Rattle.cl_mean.specs.Execution.{Ending, goes_on, breaks, continues, returns, filled}
 use Rattle.cl_mean.specs.Calls.{Across, far, unguarded, call_at, body_run}
-use Rattle.cl_mean.specs.Guarded.{Crossing, Guarded, Outcome, guarded, serves_at}
+use Rattle.cl_mean.specs.Guarded.{Crossing, Kept, GuardedRun, guarded, serves_at}
 
 -- ---- the start
 
@@ -28,11 +28,11 @@ no_input = []
 
 -- a level at the start of a run; one without an input has the empty one
 abbrev pub level_at : Source → List (List ℕ) → ℕ → ℕ → LevelState
-level_at source inputs steps level = record {
+level_at source inputs limit level = record {
   objects = objects_at source.statics level;
   input = slice_index_or inputs level no_input;
   output = [];
-  steps_left = steps;
+  steps_left = limit;
   active = 0;
   cost = 0;
 }
@@ -50,36 +50,43 @@ abbrev pub no_function : Definition
 no_function = record { index = 0; name = []; line = 0; level = 0; taints = None; entries = []; result = nothing; params = []; body = []; statics = [] }
 
 -- they are executed in the order of the source before the run
-abbrev pub all_filled : Source → List Static → Step (Unit {0})
+abbrev pub all_filled : Source → List Static → Computation (Unit {0})
 all_filled source [] = pure tt
 all_filled source (s ∷ ss) =
     filled (record { source = source; calls = no_calls; here = no_function }) [] s.init s.binding.shape s.binding.place >> all_filled source ss
 
+-- where an initialiser stops there is no level, and nothing runs
+abbrev pub filled_state : Course (Unit {0}) → State
+filled_state (comes x state) = state
+filled_state (stops stop state) = []
+filled_state (asks a state rest) = []
+
 unfoldable pub start_of : Checked → List (List ℕ) → ℕ → State
-start_of checked inputs steps =
-    left_by (all_filled (source_of checked) (source_of checked).statics (levels_from (level_at (source_of checked) inputs steps) 0 checked.labels.levels))
+start_of checked inputs limit =
+    let source = source_of checked in
+    filled_state (all_filled source source.statics (levels_from (level_at source inputs limit) 0 checked.labels.levels))
 
 -- ---- the bound
 
--- The steps of all levels, and one more. Each call and each turn of a loop takes a step, so this bound is never met.
+-- The steps of all levels, and one more. Each call and each round of a loop takes a step, so this bound is never met.
 unfoldable pub bound_of : Checked → ℕ → ℕ
-bound_of checked steps = length checked.labels.levels * steps + 1
+bound_of checked limit = length checked.labels.levels * limit + 1
 
 -- ---- runs
 
 -- `main` comes to one integer: the value that it returns; at its end it returns 0
-abbrev pub exit_value : Ending → Step (List Labelled)
-exit_value (returns v) = pure (sole v ∷ [])
+abbrev pub exit_value : Ending → Computation (List Labelled)
+exit_value (returns v) = the_number v >>= λ x. pure (x ∷ [])
 exit_value (goes_on env) = pure (bare (pos 0) ∷ [])
 exit_value breaks = halted meaningless
 exit_value continues = halted meaningless
 
-abbrev pub main_run : Source → Across → ℕ → Option Definition → Step (List Labelled)
+abbrev pub main_run : Source → Across → ℕ → Option Definition → Computation (List Labelled)
 main_run source across bound None = halted meaningless
 main_run source across bound (Some d) = body_run source bound (call_at source across bound) d [] >>= exit_value
 
-unfoldable pub main_step : Checked → Across → ℕ → Step (List Labelled)
-main_step checked across bound = main_run (source_of checked) across bound (main_of (source_of checked))
+unfoldable pub main_course : Checked → Across → ℕ → Computation (List Labelled)
+main_course checked across bound = main_run (source_of checked) across bound (main_of (source_of checked))
 
 -- An end is an exit value or a trap. There is none where a run stops otherwise, which no accepted source does.
 abbrev pub exit_of : List Labelled → Option End
@@ -109,22 +116,22 @@ pub record Run : Type 0 where
   pub crossings : List Crossing
   pub end : Option End
 
-abbrev pub guarded_start : Law → List Law → Guarded
+abbrev pub guarded_start : Law → List Law → Kept
 guarded_start law houses = record { law = law; houses = houses; crossings = [] }
 
 -- the guarded run of `main`, whose calls of other levels ask
-unfoldable pub guarded_run : Checked → Law → List Law → List (List ℕ) → ℕ → Outcome (List Labelled)
-guarded_run checked law houses inputs steps =
-    guarded (serves_at (source_of checked) (bound_of checked steps) (bound_of checked steps))
-    (main_step checked (far (source_of checked)) (bound_of checked steps) (start_of checked inputs steps))
+unfoldable pub guarded_run : Checked → Law → List Law → List (List ℕ) → ℕ → GuardedRun (List Labelled)
+guarded_run checked law houses inputs limit =
+    guarded (serves_at (source_of checked) (bound_of checked limit) (bound_of checked limit))
+    (main_course checked (far (source_of checked)) (bound_of checked limit) (start_of checked inputs limit))
     (guarded_start law houses)
 
-abbrev pub run_of : Outcome (List Labelled) → Run
-run_of r = record { outputs = outputs_of r.levels; crossings = r.guarded.crossings; end = result_end r.result }
+abbrev pub run_of : GuardedRun (List Labelled) → Run
+run_of r = record { outputs = outputs_of r.levels; crossings = r.kept.crossings; end = result_end r.result }
 
 -- The guarded meaning.
 unfoldable pub mean : Checked → Law → List Law → List (List ℕ) → ℕ → Run
-mean checked law houses inputs steps = run_of (guarded_run checked law houses inputs steps)
+mean checked law houses inputs limit = run_of (guarded_run checked law houses inputs limit)
 
 -- ---- the plain meaning
 
@@ -140,11 +147,12 @@ pub record PlainRun : Type 0 where
   pub end : Option End
 
 unfoldable pub plain_run : Checked → List (List ℕ) → ℕ → Course (List Labelled)
-plain_run checked inputs steps = main_step checked (unguarded (source_of checked)) (bound_of checked steps) (start_of checked inputs steps)
+plain_run checked inputs limit =
+    main_course checked (unguarded (source_of checked)) (bound_of checked limit) (start_of checked inputs limit)
 
 abbrev pub plain_of : Course (List Labelled) → PlainRun
-plain_of c = record { outputs = outputs_of (left_by c); end = course_end c }
+plain_of c = record { outputs = outputs_of (state_of c); end = course_end c }
 
 -- The plain meaning: C's own, where a call of another level is a call.
 unfoldable pub plain : Checked → List (List ℕ) → ℕ → PlainRun
-plain checked inputs steps = plain_of (plain_run checked inputs steps)
+plain checked inputs limit = plain_of (plain_run checked inputs limit)

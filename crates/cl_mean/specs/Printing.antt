@@ -1,5 +1,5 @@
 -- The bytes that `printf` writes (C11 7.21.6.1, for the conversions of the profile).
-use Rattle.std.specs.Prelude.{ℕ, suc, ◌==◌, Bool, false, ℤ, List, [], ◌∷◌, ◌++◌, map, if◌then◌else◌, slice_index, codes, decimal}
+use Rattle.std.specs.Prelude.{ℕ, suc, ◌==◌, Bool, false, ℤ, Option, Some, None, List, [], ◌∷◌, ◌++◌, map, if◌then◌else◌, slice_index, codes, decimal}
 use Rattle.std.specs.Fmt.{digits, signed_decimal}
 use Rattle.cl_tree.specs.declared.kinds.IntKind.TheVariants.{U8, I32, U32, Long, ULong, LLong, ULLong}
 use Rattle.cl_tree.specs.Arithmetic.{value, residue}
@@ -25,28 +25,34 @@ pub data Begun : Type 0 where
 abbrev pub is_char : List ℕ → ℕ → Bool
 is_char c b = slice_index c 0 == b
 
--- The pieces of a format. An accepted format has no other conversions.
-unfoldable pub pieces_from : Begun → List ℕ → List Piece
-pieces_from begun [] = []
-pieces_from text (b ∷ bs) = if is_char (codes "%") b then pieces_from percent bs else byte b ∷ pieces_from text bs
+abbrev pub with_piece : Piece → Option (List Piece) → Option (List Piece)
+with_piece p None = None
+with_piece p (Some ps) = Some (p ∷ ps)
+
+-- The pieces of a format, if it has no other conversions.
+unfoldable pub pieces_from : Begun → List ℕ → Option (List Piece)
+pieces_from text [] = Some []
+pieces_from begun [] = None
+pieces_from text (b ∷ bs) =
+    if is_char (codes "%") b then pieces_from percent bs else with_piece (byte b) (pieces_from text bs)
 pieces_from percent (b ∷ bs) =
     if is_char (codes "l") b then pieces_from long bs
-    else (if is_char (codes "d") b then form D ∷ pieces_from text bs
-    else (if is_char (codes "u") b then form U ∷ pieces_from text bs
-    else (if is_char (codes "x") b then form X ∷ pieces_from text bs
-    else (if is_char (codes "c") b then form C ∷ pieces_from text bs
-    else byte b ∷ pieces_from text bs))))
+    else (if is_char (codes "d") b then with_piece (form D) (pieces_from text bs)
+    else (if is_char (codes "u") b then with_piece (form U) (pieces_from text bs)
+    else (if is_char (codes "x") b then with_piece (form X) (pieces_from text bs)
+    else (if is_char (codes "c") b then with_piece (form C) (pieces_from text bs)
+    else (if is_char (codes "%") b then with_piece (byte b) (pieces_from text bs) else None)))))
 pieces_from long (b ∷ bs) =
     if is_char (codes "l") b then pieces_from long_long bs
-    else (if is_char (codes "d") b then form Ld ∷ pieces_from text bs
-    else (if is_char (codes "u") b then form Lu ∷ pieces_from text bs
-    else form Lx ∷ pieces_from text bs))
+    else (if is_char (codes "d") b then with_piece (form Ld) (pieces_from text bs)
+    else (if is_char (codes "u") b then with_piece (form Lu) (pieces_from text bs)
+    else (if is_char (codes "x") b then with_piece (form Lx) (pieces_from text bs) else None)))
 pieces_from long_long (b ∷ bs) =
-    if is_char (codes "d") b then form Lld ∷ pieces_from text bs
-    else (if is_char (codes "u") b then form Llu ∷ pieces_from text bs
-    else form Llx ∷ pieces_from text bs)
+    if is_char (codes "d") b then with_piece (form Lld) (pieces_from text bs)
+    else (if is_char (codes "u") b then with_piece (form Llu) (pieces_from text bs)
+    else (if is_char (codes "x") b then with_piece (form Llx) (pieces_from text bs) else None))
 
-abbrev pub pieces_of : List ℕ → List Piece
+abbrev pub pieces_of : List ℕ → Option (List Piece)
 pieces_of = pieces_from text
 
 -- how many conversions there are

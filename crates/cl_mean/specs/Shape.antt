@@ -1,5 +1,5 @@
 -- C types with their structs written out: which integers a value has, and where.
-use Rattle.std.specs.Prelude.{ℕ, zero, suc, ◌+◌, pos, List, [], ◌∷◌, ◌++◌, length, Option, Some, None, if◌then◌else◌, bytes_eq}
+use Rattle.std.specs.Prelude.{ℕ, zero, suc, Bool, true, false, not, ◌==◌, ◌&&◌, ◌+◌, pos, List, [], ◌∷◌, ◌++◌, length, Option, Some, None, if◌then◌else◌, bytes_eq}
 use Rattle.std.specs.List.{flat_map, fold}
 use Rattle.cl_tree.specs.declared.kinds.IntKind.{IntKind}
 use Rattle.cl_tree.specs.declared.kinds.IntKind.TheVariants.{I8, U8, I16, U16, I32, U32, Long, ULong, LLong, ULLong}
@@ -8,7 +8,7 @@ use Rattle.cl_tree.specs.declared.tree.CType.TheOpen as ctype
 use Rattle.cl_tree.specs.declared.tree.Declarator.{Declarator}
 use Rattle.cl_tree.specs.declared.tree.Item.{Item}
 use Rattle.cl_tree.specs.declared.tree.Item.TheVariants.{Struct}
-use Rattle.cl_tree.specs.Arithmetic.{value}
+use Rattle.cl_tree.specs.Arithmetic.{rank, is_signed}
 use Rattle.cl_tree.specs.Words.{Word, entry}
 use Rattle.cl_mean.specs.Value.{Labelled, bare, Value, Values, number, parts, no_more, ◌then◌, no_value}
 
@@ -29,14 +29,14 @@ mutual
 abbrev pub Structs : Type 0
 Structs = List (Word × Members)
 
-abbrev pub known : Option Members → Members
-known None = no_members
-known (Some ms) = ms
+abbrev pub struct_known : Option Members → Shape
+struct_known None = nothing
+struct_known (Some ms) = struct ms
 
 -- no accepted source has a type of another form
 abbrev pub type_shape : Structs → CType-F Shape → Shape
 type_shape structs (ctype.Integer kind) = integer kind
-type_shape structs (ctype.Struct tag) = struct (known (entry structs tag))
+type_shape structs (ctype.Struct tag) = struct_known (entry structs tag)
 type_shape structs (ctype.Array element size) = array element size
 type_shape structs _ = nothing
 
@@ -55,20 +55,38 @@ with_struct structs _ = structs
 unfoldable pub structs_of : List Item → Structs
 structs_of = fold with_struct []
 
+-- the same kind: one of a rank is signed, the other isn't
+abbrev pub is_kind : IntKind → IntKind → Bool
+is_kind a b = (rank a == rank b) && (if is_signed a then is_signed b else not (is_signed b))
+
+-- the same type: of the same kind, with the same members in order, or with so many elements of the same type
+abbrev mutual
+  pub is_type : Shape → Shape → Bool
+  is_type nothing nothing = true
+  is_type (integer a) (integer b) = is_kind a b
+  is_type (struct ms) (struct ns) = are_members ms ns
+  is_type (array a m) (array b n) = is_type a b && (m == n)
+  is_type _ _ = false
+
+  pub are_members : Members → Members → Bool
+  are_members no_members no_members = true
+  are_members (member x s ms) (member y t ns) = bytes_eq x y && (is_type s t && are_members ms ns)
+  are_members _ _ = false
+
 -- ---- parts of a shape
 
 abbrev pub kind_in : Shape → IntKind
 kind_in (integer kind) = kind
 kind_in _ = I32
 
-abbrev pub result_in : Members → ℕ → Shape
-result_in no_members i = nothing
-result_in (member name s ms) zero = s
-result_in (member name s ms) (suc i) = result_in ms i
+abbrev pub member_shape : Members → ℕ → Shape
+member_shape no_members i = nothing
+member_shape (member name s ms) zero = s
+member_shape (member name s ms) (suc i) = member_shape ms i
 
 -- the shape of a part
 abbrev pub part_in : Shape → ℕ → Shape
-part_in (struct ms) i = result_in ms i
+part_in (struct ms) i = member_shape ms i
 part_in (array element size) i = element
 part_in _ i = nothing
 
@@ -76,14 +94,10 @@ abbrev pub size_in : Shape → ℕ
 size_in (array element size) = size
 size_in _ = 0
 
--- which of the members has a name
-abbrev pub place_in : Members → Word → ℕ
-place_in no_members name = 0
-place_in (member called s ms) name = if bytes_eq called name then 0 else suc (place_in ms name)
-
-abbrev pub member_in : Shape → Word → ℕ
-member_in (struct ms) name = place_in ms name
-member_in _ name = 0
+-- which of the members has a name; behind the last where none has
+abbrev pub member_index : Members → Word → ℕ
+member_index no_members name = 0
+member_index (member first s ms) name = if bytes_eq first name then 0 else suc (member_index ms name)
 
 -- ---- integers of a shape
 
@@ -125,8 +139,8 @@ total_size (kind ∷ kinds) = size_of kind + total_size kinds
 
 -- the integers under a path of members, counted from a place on; through an array a path goes to each element
 abbrev pub each_under : ℕ → ℕ → (ℕ → List ℕ) → ℕ → List ℕ
-each_under zero step under at = []
-each_under (suc n) step under at = under at ++ each_under n step under (at + step)
+each_under zero stride under at = []
+each_under (suc n) stride under at = under at ++ each_under n stride under (at + stride)
 
 abbrev pub chosen : List Word → Word → (List Word → List ℕ) → List ℕ
 chosen [] name under = under []
@@ -162,18 +176,13 @@ abbrev mutual
   zeros_of no_members = no_more
   zeros_of (member name s ms) = zero_of s then zeros_of ms
 
--- an integer is converted to the kind of its place; a struct is the same struct
-abbrev pub converted : Shape → Value → Value
-converted (integer kind) (number x) = number (record { number = value kind x.number; labels = x.labels })
-converted _ v = v
-
 -- The value of a shape that a list of integers begins with, and the rest of the list.
-abbrev pub Taking : Type 0
-Taking = List Labelled → Value × List Labelled
+abbrev pub ValueFrom : Type 0
+ValueFrom = List Labelled → Value × List Labelled
 
-abbrev pub first_taken : List Labelled → Value × List Labelled
-first_taken [] = (number (bare (pos 0)), [])
-first_taken (x ∷ xs) = (number x, xs)
+abbrev pub integer_from : List Labelled → Value × List Labelled
+integer_from [] = (number (bare (pos 0)), [])
+integer_from (x ∷ xs) = (number x, xs)
 
 abbrev pub whole : Values × List Labelled → Value × List Labelled
 whole r = (parts r.0, r.1)
@@ -181,17 +190,17 @@ whole r = (parts r.0, r.1)
 abbrev pub and_then : Value × List Labelled → (List Labelled → Values × List Labelled) → Values × List Labelled
 and_then r rest = (r.0 then (rest r.1).0, (rest r.1).1)
 
-abbrev pub taken_times : ℕ → Taking → List Labelled → Values × List Labelled
-taken_times zero take xs = (no_more, xs)
-taken_times (suc n) take xs = and_then (take xs) (taken_times n take)
+abbrev pub elements_from : ℕ → ValueFrom → List Labelled → Values × List Labelled
+elements_from zero take xs = (no_more, xs)
+elements_from (suc n) take xs = and_then (take xs) (elements_from n take)
 
 abbrev mutual
-  pub taken : Shape → List Labelled → Value × List Labelled
-  taken nothing xs = (no_value, xs)
-  taken (integer kind) xs = first_taken xs
-  taken (struct ms) xs = whole (taken_members ms xs)
-  taken (array element size) xs = whole (taken_times size (taken element) xs)
+  pub value_from : Shape → List Labelled → Value × List Labelled
+  value_from nothing xs = (no_value, xs)
+  value_from (integer kind) xs = integer_from xs
+  value_from (struct ms) xs = whole (values_from ms xs)
+  value_from (array element size) xs = whole (elements_from size (value_from element) xs)
 
-  pub taken_members : Members → List Labelled → Values × List Labelled
-  taken_members no_members xs = (no_more, xs)
-  taken_members (member name s ms) xs = and_then (taken s xs) (taken_members ms)
+  pub values_from : Members → List Labelled → Values × List Labelled
+  values_from no_members xs = (no_more, xs)
+  values_from (member name s ms) xs = and_then (value_from s xs) (values_from ms)

@@ -1,5 +1,5 @@
 -- What a checked source says about its names: the functions, the objects of static duration, the rows of the calls across levels.
-use Rattle.std.specs.Prelude.{ℕ, zero, suc, Bool, true, false, ◌==◌, ◌&&◌, List, [], ◌∷◌, ◌++◌, map, length, filter, Option, Some, None, slice_index_or, if◌then◌else◌, bytes_eq, codes}
+use Rattle.std.specs.Prelude.{ℕ, zero, suc, Bool, true, false, nat_lt, ◌==◌, ◌&&◌, List, [], ◌∷◌, ◌++◌, map, length, filter, Option, Some, None, slice_index_or, if◌then◌else◌, bytes_eq, codes}
 use Rattle.std.specs.List.{flat_map}
 use Rattle.cl_tree.specs.declared.tree.Declarator.{Declarator}
 use Rattle.cl_tree.specs.declared.tree.Stmt.{Stmt, fold-Stmt}
@@ -32,7 +32,7 @@ pub data Root : Type 0 where
   -- a parameter of an annotated function: just its taints
   admits : List Mention → Root
   -- an annotated variable: in the body of an annotated function just its own label
-  annotated : Root
+  labelled : Root
 
 -- What a name means: its type, where it lies, and the labels of the indexes by which it was lent, which each read of it carries.
 pub record Binding : Type 0 where
@@ -49,6 +49,29 @@ Env = List Binding
 unfoldable pub binding_of : Env → Word → Option Binding
 binding_of [] name = None
 binding_of (b ∷ env) name = if bytes_eq b.name name then Some b else binding_of env name
+
+-- ---- levels and labels of what is declared
+
+-- a level that isn't there: that of what has none
+abbrev pub nowhere : Checked → ℕ
+nowhere checked = length checked.labels.levels
+
+-- the k-th level of a table
+abbrev pub level_among : Checked → List ℕ → ℕ → ℕ
+level_among checked levels k = slice_index_or levels k (nowhere checked)
+
+-- a label that isn't there: that of an item of which the table says nothing
+abbrev pub lost_label : Checked → Option ℕ
+lost_label checked = Some (length checked.labels.labels)
+
+-- the k-th label of a table
+abbrev pub label_in : Checked → List (Option ℕ) → ℕ → Option ℕ
+label_in checked labels k = slice_index_or labels k (lost_label checked)
+
+-- what has a label that isn't there lies nowhere
+abbrev pub level_by : Checked → Option ℕ → ℕ → ℕ
+level_by checked None level = level
+level_by checked (Some k) level = if nat_lt k (length checked.labels.labels) then level else nowhere checked
 
 -- ---- objects of static duration
 
@@ -96,7 +119,7 @@ own_of (Some label) level = Label label ∷ []
 
 abbrev pub root_of : Option ℕ → Root
 root_of None = open_to_all
-root_of (Some label) = annotated
+root_of (Some label) = labelled
 
 abbrev pub init_of : List Declarator → Option Init
 init_of [] = None
@@ -106,16 +129,18 @@ abbrev pub rest_of : {A : Type 0} → List A → List A
 rest_of [] = []
 rest_of (x ∷ xs) = xs
 
-abbrev pub no_label : Option ℕ
-no_label = None
+-- the level of an object: one that no declarator declares lies nowhere
+abbrev pub level_of_object : Checked → ℕ → List Declarator → ℕ
+level_of_object checked k [] = nowhere checked
+level_of_object checked k (d ∷ ds) =
+    level_by checked (label_in checked checked.labels.on_objects k) (level_among checked checked.levels.of_objects k)
 
--- The objects of a level are numbered in the order of the source: `seen` has the levels of the objects before. One without a level is
--- `nowhere`.
-unfoldable pub statics_from : Structs → ℕ → List ℕ → List ObjFact → List Declarator → List ℕ → List (Option ℕ) → List Static
-statics_from structs nowhere seen [] ds levels labels = []
-statics_from structs nowhere seen (o ∷ os) ds levels labels =
-    static_at (slice_index_or levels 0 nowhere) (slice_index_or labels 0 no_label)
-    ∷ statics_from structs nowhere (slice_index_or levels 0 nowhere ∷ seen) os (rest_of ds) (rest_of levels) (rest_of labels)
+-- The objects of a level are numbered in the order of the source: `seen` has the levels of the objects before.
+unfoldable pub statics_from : Checked → Structs → ℕ → List ℕ → List ObjFact → List Declarator → List Static
+statics_from checked structs k seen [] ds = []
+statics_from checked structs k seen (o ∷ os) ds =
+    static_at (level_of_object checked k ds) (label_in checked checked.labels.on_objects k)
+    ∷ statics_from checked structs (suc k) (level_of_object checked k ds ∷ seen) os (rest_of ds)
   where
     static_at : ℕ → Option ℕ → Static
     static_at level label = record {
@@ -146,11 +171,11 @@ pub record Definition : Type 0 where
   pub statics : List Binding
 
 abbrev pub is_annotated : Definition → Bool
-is_annotated d = annotates d.taints
+is_annotated d = is_some d.taints
   where
-    annotates : Option Taints → Bool
-    annotates None = false
-    annotates (Some t) = true
+    is_some : Option Taints → Bool
+    is_some None = false
+    is_some (Some t) = true
 
 abbrev pub no_mentions : Mentions
 no_mentions = record { all = [] }
@@ -164,18 +189,27 @@ abbrev pub parameters_of : Structs → Option Taints → ℕ → List Declarator
 parameters_of structs taints k [] = []
 parameters_of structs taints k (d ∷ ds) = record { name = d.name; shape = shape_of structs d.ctype; root = parameter_root taints k } ∷ parameters_of structs taints (suc k) ds
 
-abbrev pub owned_by : ℕ → Static → Bool
-owned_by index s = owns s.owner
+abbrev pub is_owned_by : ℕ → Static → Bool
+is_owned_by index s = is_owner s.owner
   where
-    owns : Option ℕ → Bool
-    owns None = false
-    owns (Some f) = f == index
+    is_owner : Option ℕ → Bool
+    is_owner None = false
+    is_owner (Some f) = f == index
 
 abbrev pub label_at : List LabelFact → Option ℕ → Option LabelFact
 label_at labels None = None
 label_at [] (Some k) = None
 label_at (l ∷ ls) (Some zero) = Some l
 label_at (l ∷ ls) (Some (suc k)) = label_at ls (Some k)
+
+-- the level of a label, if it is one
+abbrev pub level_of : List LabelFact → Mention → Option ℕ
+level_of labels (Level level) = Some level
+level_of labels (Label k) = label_level (label_at labels (Some k))
+  where
+    label_level : Option LabelFact → Option ℕ
+    label_level None = None
+    label_level (Some label) = Some label.level
 
 abbrev pub taints_of : Option LabelFact → Option Taints
 taints_of None = None
@@ -185,37 +219,47 @@ abbrev pub entries_of : Option LabelFact → List Entry
 entries_of None = []
 entries_of (Some label) = label.entries
 
-abbrev pub given_body : Option (List Stmt) → List Stmt
-given_body None = []
-given_body (Some body) = body
+-- an annotated function has a list of labels for each parameter
+abbrev pub is_counted : Option Taints → List Declarator → Bool
+is_counted None params = true
+is_counted (Some t) params = length t.args == length params
 
--- the definition of a function, where its item has one
+abbrev pub if_counted : Bool → Definition → List Definition
+if_counted true d = d ∷ []
+if_counted false d = []
+
+-- the definition of a function, where its item has a body
 unfoldable pub definition_of : Structs → List Static → ℕ → FnFact → ℕ → Option LabelFact → Item → List Definition
-definition_of structs statics index fact level label (Function _ result name _ params body _ _) = record {
-  index = index;
-  name = name;
-  line = fact.line;
-  level = level;
-  taints = taints_of label;
-  entries = entries_of label;
-  result = shape_of structs result;
-  params = parameters_of structs (taints_of label) 0 params;
-  body = given_body body;
-  statics = map (λ s. s.binding) (filter (owned_by index) statics);
-} ∷ []
+definition_of structs statics index fact level label (Function _ result name _ params (Some body) _ _) =
+    if_counted (is_counted (taints_of label) params) (record {
+      index = index;
+      name = name;
+      line = fact.line;
+      level = level;
+      taints = taints_of label;
+      entries = entries_of label;
+      result = shape_of structs result;
+      params = parameters_of structs (taints_of label) 0 params;
+      body = body;
+      statics = map (λ s. s.binding) (filter (is_owned_by index) statics);
+    })
 definition_of structs statics index fact level label _ = []
 
 abbrev pub no_item : Item
 no_item = Variables (record { is_static = false; names = [] })
 
--- a level that isn't there: that of what has none
-abbrev pub nowhere : Checked → ℕ
-nowhere checked = length checked.labels.levels
+abbrev pub label_of_function : Checked → ℕ → Option ℕ
+label_of_function checked k = label_in checked checked.labels.on_functions k
+
+abbrev pub level_of_function : Checked → ℕ → ℕ
+level_of_function checked k =
+    level_by checked (label_of_function checked k) (level_among checked checked.levels.of_functions k)
 
 unfoldable pub definitions_from : Checked → Structs → List Static → ℕ → List FnFact → List Definition
 definitions_from checked structs statics k [] = []
 definitions_from checked structs statics k (f ∷ fs) =
-    definition_of structs statics k f (slice_index_or checked.levels.of_functions k (nowhere checked)) (label_at checked.labels.labels (slice_index_or checked.labels.on_functions k no_label)) (slice_index_or checked.typed.program.items f.item no_item)
+    definition_of structs statics k f (level_of_function checked k)
+    (label_at checked.labels.labels (label_of_function checked k)) (slice_index_or checked.typed.program.items f.item no_item)
     ++ definitions_from checked structs statics (suc k) fs
 
 -- the function of a name, if there is one
@@ -238,16 +282,17 @@ pub record Source : Type 0 where
   pub rows : List GedlRow
 
 abbrev pub is_global : Static → Bool
-is_global s = unowned s.owner
+is_global s = is_unowned s.owner
   where
-    unowned : Option ℕ → Bool
-    unowned None = true
-    unowned (Some f) = false
+    is_unowned : Option ℕ → Bool
+    is_unowned None = true
+    is_unowned (Some f) = false
 
 unfoldable pub source_of : Checked → Source
 source_of checked =
     let structs = structs_of checked.typed.program.items in
-    let statics = statics_from structs (nowhere checked) [] checked.typed.objects (flat_map item_statics checked.typed.program.items) checked.levels.of_objects checked.labels.on_objects in
+    let names = flat_map item_statics checked.typed.program.items in
+    let statics = statics_from checked structs 0 [] checked.typed.objects names in
     record {
       structs = structs;
       functions = definitions_from checked structs statics 0 checked.typed.functions;
@@ -273,7 +318,7 @@ is_main_at source level = is_at level (main_of source)
 
 -- ---- rows
 
--- the number of the row by which a level calls a function, counted from one on
+-- the number of the row by which a level calls a function, counted from a number on
 unfoldable pub row_from : ℕ → List GedlRow → ℕ → ℕ → Option ℕ
 row_from k [] level function = None
 row_from k (row ∷ rows) level function = if (row.from == level) && (row.function == function) then Some k else row_from (suc k) rows level function

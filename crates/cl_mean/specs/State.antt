@@ -1,10 +1,10 @@
 -- The state of a run, and all that is done to it: deeds of one level.
-use Rattle.std.specs.Prelude.{ℕ, ◌+◌, ◌-◌, nat_lt, nat_le, ℤ, pos, negsuc, List, [], ◌∷◌, ◌++◌, length, slice_index_or, slice_set, Result, Ok, Err, if◌then◌else◌}
+use Rattle.std.specs.Prelude.{ℕ, Bool, ◌&&◌, ◌+◌, ◌-◌, nat_lt, nat_le, ℤ, pos, negsuc, List, [], ◌∷◌, ◌++◌, length, slice_index_or, slice_set, Result, Ok, Err, if◌then◌else◌}
 use Rattle.cl_base.specs.declared.limits.TheConstants.{OUTPUT_BYTES, ACTIVE_CALLS, FRAME_COST}
 use Rattle.cl_tree.specs.declared.kinds.TrapCause.{TrapCause}
 use Rattle.cl_tree.specs.declared.kinds.TrapCause.TheVariants.{Steps, Depth, Output, Frames}
 use Rattle.cl_mean.specs.declared.labels.Mention.{Mention}
-use Rattle.cl_mean.specs.Value.{Value, no_value, at_path, with_path, each, carries_too}
+use Rattle.cl_mean.specs.Value.{Value, no_value, at_path, with_path, is_path, each, carries_too}
 
 -- ---- the state
 
@@ -43,12 +43,12 @@ deeper place i = record { level = place.level; object = place.object; path = pla
 
 -- ---- what one level does
 
--- why a level can't do something: a trap, or an object that isn't there, of which no accepted source speaks
+-- why a level can't do something: a trap, or an object or a part that isn't there, of which no accepted source speaks
 pub data Fault : Type 0 where
   trap : TrapCause → Fault
   no_such_object : Fault
 
--- All that a step does to levels it does to one of them: a result and the level as it is then, or a fault.
+-- All that a computation does to levels it does to one of them: a result and the level as it is then, or a fault.
 abbrev pub Deed : Type 0 → Type 0
 Deed A = LevelState → Result (A × LevelState) Fault
 
@@ -70,8 +70,12 @@ no_object = record { own = []; value = no_value }
 abbrev pub object_in : LevelState → ℕ → Object
 object_in l n = slice_index_or l.objects n no_object
 
+-- an object, and a part of it at a path
+abbrev pub is_there : LevelState → ℕ → List ℕ → Bool
+is_there l n path = nat_lt n (length l.objects) && is_path (object_in l n).value path
+
 unfoldable pub fetch : ℕ → List ℕ → Deed Value
-fetch n path l = if nat_lt n (length l.objects) then Ok (at_path (object_in l n).value path, l) else Err no_such_object
+fetch n path l = if is_there l n path then Ok (at_path (object_in l n).value path, l) else Err no_such_object
 
 -- each integer that is stored carries the object's own labels too
 abbrev pub stored_in : Object → List ℕ → Value → Object
@@ -79,7 +83,8 @@ stored_in o path v = record { own = o.own; value = with_path o.value path (each 
 
 unfoldable pub store : ℕ → List ℕ → Value → Deed (Unit {0})
 store n path v l =
-    if nat_lt n (length l.objects) then Ok (tt, record l { objects = slice_set l.objects n (stored_in (object_in l n) path v) }) else Err no_such_object
+    if is_there l n path then Ok (tt, record l { objects = slice_set l.objects n (stored_in (object_in l n) path v) })
+    else Err no_such_object
 
 -- a fresh object and its number
 unfoldable pub make : Object → Deed ℕ

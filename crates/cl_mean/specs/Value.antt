@@ -1,5 +1,5 @@
 -- Values: numbers with the labels that they carry, in the shape of their C type.
-use Rattle.std.specs.Prelude.{ℕ, zero, suc, Bool, false, ◌==◌, ℤ, pos, List, [], ◌∷◌, ◌++◌, if◌then◌else◌}
+use Rattle.std.specs.Prelude.{ℕ, zero, suc, Bool, true, false, ◌==◌, ◌&&◌, ℤ, List, [], ◌∷◌, ◌++◌, if◌then◌else◌}
 use Rattle.std.specs.List.{list_any}
 use Rattle.cl_mean.specs.declared.labels.Mention.{Mention}
 use Rattle.cl_mean.specs.declared.labels.Mention.TheVariants.{Label, Level}
@@ -11,14 +11,14 @@ is_same (Label a) (Label b) = a == b
 is_same (Level a) (Level b) = a == b
 is_same _ _ = false
 
-abbrev pub has : List Mention → Mention → Bool
-has labels m = list_any (is_same m) labels
+abbrev pub is_among : List Mention → Mention → Bool
+is_among labels m = list_any (is_same m) labels
 
 -- the labels of both, none twice
 infixl 66 ◌∪◌
 abbrev pub ◌∪◌ : List Mention → List Mention → List Mention
 a ∪ [] = a
-a ∪ (m ∷ ms) = if has a m then a ∪ ms else (a ++ m ∷ []) ∪ ms
+a ∪ (m ∷ ms) = if is_among a m then a ∪ ms else (a ++ m ∷ []) ∪ ms
 
 -- a list of labels, none twice
 abbrev pub once : List Mention → List Mention
@@ -77,11 +77,6 @@ abbrev mutual
   each_of f no_more = no_more
   each_of f (v then vs) = each f v then each_of f vs
 
--- the number of an integer's value
-abbrev pub sole : Value → Labelled
-sole (number x) = x
-sole (parts vs) = bare (pos 0)
-
 -- ---- parts
 
 abbrev pub nth : Values → ℕ → Value
@@ -101,6 +96,21 @@ part (parts vs) i = nth vs i
 abbrev pub with_part : Value → ℕ → Value → Value
 with_part (number x) i w = number x
 with_part (parts vs) i w = parts (with_nth vs i w)
+
+-- there is such a part
+abbrev pub is_nth : Values → ℕ → Bool
+is_nth no_more i = false
+is_nth (v then vs) zero = true
+is_nth (v then vs) (suc i) = is_nth vs i
+
+abbrev pub is_part : Value → ℕ → Bool
+is_part (number x) i = false
+is_part (parts vs) i = is_nth vs i
+
+-- there is a part at each step of a path
+abbrev pub is_path : Value → List ℕ → Bool
+is_path v [] = true
+is_path v (i ∷ path) = is_part v i && is_path (part v i) path
 
 -- the part at a path, which names a part at each step
 abbrev pub at_path : Value → List ℕ → Value

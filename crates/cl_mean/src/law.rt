@@ -1,15 +1,15 @@
 //! Laws: what a policy or a guard does to the calls across levels.
 
 ghost use Rattle.std.specs.Prelude.{◌≡◌, ◌<◌, IfSome, length};
-ghost use Rattle.std.specs.List.{list_all};
-ghost use Rattle.cl_mean.specs.Judging.{patched, act_on, is_idle_act, is_idle_rule, is_for, first_match, matches, rules_judge, judge, is_idle};
+ghost use Rattle.std.specs.List.{list_all, position};
+ghost use Rattle.cl_mean.specs.Judging.{patched, act_on, is_idle_act, is_idle_rule, is_for, is_matched, rules_judge, judge, is_idle};
 
 use sqlite_items::Items;
 use std::alloc::Global;
 use std::marker::Model;
 
 /// A request or a reply of a function that one level calls at another.
-#[derive(Clone, Copy, Debug, PartialEq, Eq)]
+#[derive(Clone, Copy, PartialEq, Eq)]
 pub struct Asked {
     pub from: u32,
     pub to: u32,
@@ -18,14 +18,14 @@ pub struct Asked {
 }
 
 /// Another number at a place of a payload, whose integers are counted from 0.
-#[derive(Clone, Copy, Debug, PartialEq, Eq)]
+#[derive(Clone, Copy, PartialEq, Eq)]
 pub struct Patch {
     pub at: u32,
     pub with: i128,
 }
 
 /// What is done to a request or a reply that a rule matches.
-#[derive(Debug, Drop)]
+#[derive(Drop)]
 pub enum GuardAct {
     Allow,
     Block,
@@ -35,7 +35,7 @@ pub enum GuardAct {
 }
 
 /// A rule. What is None matches all.
-#[derive(Debug, Drop)]
+#[derive(Drop)]
 pub struct Rule {
     pub from: Option<u32>,
     pub to: Option<u32>,
@@ -45,7 +45,7 @@ pub struct Rule {
 }
 
 /// Rules in order. Contracts see the list of them.
-#[derive(Debug, Drop)]
+#[derive(Drop)]
 pub struct Rules {
     rules: Vec<Rule>,
 }
@@ -60,7 +60,7 @@ impl Model for Rules {
 }
 
 /// Rules of which the first that matches decides.
-#[derive(Debug, Drop)]
+#[derive(Drop)]
 pub struct Law {
     pub rules: Rules,
 }
@@ -150,9 +150,9 @@ impl GuardAct {
 }
 
 impl Rule {
-    #[tactic(auto, unfolding(crate::specs::Judging::matches))]
+    #[tactic(auto, unfolding(crate::specs::Judging::is_matched))]
     fn matches(&self, asked: Asked) -> bool
-        ensures { result ≡ matches self.now asked }
+        ensures { result ≡ is_matched self.now asked }
     {
         is_for(self.from, asked.from)
             && is_for(self.to, asked.to)
@@ -193,15 +193,9 @@ fn all_idle(rules: &[Rule]) -> bool
 }
 
 /// The place of the first rule that matches.
-#[tactic(auto, unfolding(crate::specs::Judging::first_match), using(std::proofs::lemmas::Option::slice_get_read))]
 fn first_match(rules: &[Rule], asked: Asked) -> Option<usize>
-    ensures place { result ≡ first_match 0 rules.now asked }
+    ensures place { result ≡ position (λ rule. is_matched rule asked) rules.now }
     ensures within { IfSome result (λ at. at < length rules.now) }
 {
-    for (at, rule) in rules.iter().enumerate() {
-        if rule.matches(asked) {
-            return Some(at);
-        }
-    }
-    None
+    rules.iter().position(|rule| rule.matches(asked))
 }

@@ -1,4 +1,4 @@
--- The spelling of a program is cut back into its items, and the pieces of read items are that spelling.
+-- The spelling of a program is cut back into its items, and the terminals of read items are that spelling.
 use Rattle.std.proofs.Common.{◌≡◌, ◌⊎◌, inl, inr, ℕ, List, [], ◌∷◌, ◌++◌, map, refl, subst, sym, ap, ◌∙◌, Bool, true, false, ◌&&◌, ◌||◌, if◌then◌else◌, Option, Some, None, append_assoc}
 use Rattle.std.specs.List.{flat_map}
 use Rattle.std.proofs.lemmas.List.{append-nil}
@@ -7,7 +7,7 @@ use Rattle.cl_tree.specs.declared.token.Pragma.{Pragma}
 use Rattle.cl_tree.specs.declared.grammar.Keyword.TheVariants as key
 use Rattle.cl_tree.specs.declared.grammar.Sign.{Sign}
 use Rattle.cl_tree.specs.declared.grammar.Sign.TheVariants as sign
-use Rattle.cl_tree.specs.declared.grammar.Piece.{Piece}
+use Rattle.cl_tree.specs.declared.grammar.Terminal.{Terminal}
 use Rattle.cl_tree.specs.declared.tree.CType.{CType}
 use Rattle.cl_tree.specs.declared.tree.Declarator.{Declarator}
 use Rattle.cl_tree.specs.declared.tree.Declaration.{Declaration}
@@ -17,9 +17,9 @@ use Rattle.cl_tree.specs.declared.tree.Item.TheVariants as item
 use Rattle.cl_tree.specs.declared.tree.Program.{Program}
 use Rattle.cl_tree.specs.Spelling.{Want, is, size, Wanted, Spelling, put_on, put, put_mark, put_at, mark_on, key_on, commas, is_empty, Meets, Reads, type_name, held_by, floating_lines, other_lines}
 use Rattle.cl_tree.specs.Statements.{declarator, declaration, base_lines, first_lines, base_of, common_base, stmt_shape, statements}
-use Rattle.cl_tree.specs.Items.{member, parameter, parameters, body_then, named_function, function, item_spelling, is_well_formed, WellFormed, program_spelling, Bracket, round, brace, body, Effect, directive, effect, open_after, ends_item, is_close, is_directive_first, ends_here, joined, cut_from, cut}
+use Rattle.cl_tree.specs.Items.{member, parameter, parameters, body_then, named_function, function, item_spelling, is_well_formed, WellFormed, program_spelling, Bracket, round, brace, body, Effect, pragma_line, effect, open_after, ends_item, is_close, is_pragma_first, ends_here, joined, cut_from, cut}
 use Rattle.cl_tree.specs.Reading.{IsItem, AreItems}
-use Rattle.cl_parse_expr.specs.Cursor.{Pieces}
+use Rattle.cl_parse_expr.specs.Cursor.{Terminals}
 use Rattle.cl_parse_expr.proofs.Marks.{reads_split, reads_append}
 use Rattle.cl_parse.proofs.Cut.{all_closed}
 use Rattle.cl_parse.proofs.Within.{want_effect, want_closes, is_cle, Ends, plain_step, open_step, close_step, semicolon_step, Through, in_brackets, base_goes, type_goes, Throughs, commas_through}
@@ -60,7 +60,7 @@ function_ends : (is_static : Bool) (lines : List ℕ) (result : CType) (second :
 function_ends true lines result second ms k = plain_step lines (sign.Key key.Static) _ [] false refl (type_goes [] result second ms [] [] false k)
 function_ends false lines result second ms k = type_goes lines result second ms [] [] false k
 
--- a directive, or pieces of which the last ends the item
+-- a pragma line, or terminals of which the last ends the item
 abbrev Form : Item → Type 0
 Form i = ((p : Pragma) × (line : ℕ) × (i ≡ item.Cle p line)) ⊎ Ends [] false (item_spelling i ++ [])
 
@@ -77,7 +77,7 @@ form (item.Function is_static result name void_word params inside line second) =
     (parameters_go void_word params (put_mark mark.CloseParen (body_then inside)) [] (round ∷ []) false (λ d. close_step mark.CloseParen round round (body_then inside ++ []) [] d refl refl refl (body_ends inside))))))
 form (item.Cle p line) = inl (p, line, refl)
 
--- ---- pieces against what is wanted
+-- ---- terminals against what is wanted
 
 meets_effect : (a : Bool) (w : Want) (s : Sign) → Meets w s → effect a s ≡ want_effect a w
 meets_effect a (is t) s e = ap (λ (x : Sign). effect a x) e
@@ -89,17 +89,17 @@ meets_closes (is t) s e = ap (λ (x : Sign). is_close x) e
 meets_closes (size n) (sign.Integer v k) e = refl
 meets_closes (size n) _ e = absurd e
 
-abbrev directive_sign : Sign → Bool
-directive_sign s = is_directive_first (record { line = 0; what = s } ∷ [])
+abbrev pragma_sign : Sign → Bool
+pragma_sign s = is_pragma_first (record { line = 0; what = s } ∷ [])
 
-want_no_directive : (t : Sign) → is_cle (is t) ≡ false → directive_sign t ≡ false
-want_no_directive (sign.Cle p) e = absurd cc
-want_no_directive _ e = refl
+want_no_pragma : (t : Sign) → is_cle (is t) ≡ false → pragma_sign t ≡ false
+want_no_pragma (sign.Cle p) e = absurd cc
+want_no_pragma _ e = refl
 
-no_directive : (w : Want) (s : Sign) → Meets w s → is_cle w ≡ false → directive_sign s ≡ false
-no_directive (is t) s e f = ap directive_sign e ∙ want_no_directive t f
-no_directive (size n) (sign.Integer v k) e f = refl
-no_directive (size n) _ e f = absurd e
+no_pragma : (w : Want) (s : Sign) → Meets w s → is_cle w ≡ false → pragma_sign s ≡ false
+no_pragma (is t) s e f = ap pragma_sign e ∙ want_no_pragma t f
+no_pragma (size n) (sign.Integer v k) e f = refl
+no_pragma (size n) _ e f = absurd e
 
 stays_no_cle : (a : Bool) (w : Want) → ends_item [] (want_effect a w) ≡ false → is_cle w ≡ false
 stays_no_cle a (is (sign.Cle p)) e = absurd cc
@@ -110,41 +110,41 @@ first_no_cle : (v : Wanted) (ws : Spelling) (a : Bool) → Ends [] a (v ∷ ws) 
 first_no_cle v [] a h = h.1
 first_no_cle v (w ∷ ws) a h = stays_no_cle a v.what h.0
 
--- no directive stands behind a piece that ends nothing
-no_cut : (v : Wanted) (ws : Spelling) (bs : List Bracket) (a : Bool) (ts rest : Pieces) → Ends bs a (v ∷ ws) → Reads (v ∷ ws) ts rest → (is_empty bs && is_directive_first ts) ≡ false
+-- no pragma line stands behind a terminal that ends nothing
+no_cut : (v : Wanted) (ws : Spelling) (bs : List Bracket) (a : Bool) (ts rest : Terminals) → Ends bs a (v ∷ ws) → Reads (v ∷ ws) ts rest → (is_empty bs && is_pragma_first ts) ≡ false
 no_cut v ws bs a [] rest h r = absurd r
 no_cut v ws (b ∷ bs) a (q ∷ ts) rest h r = refl
-no_cut v ws [] a (q ∷ ts) rest h r = no_directive v.what q.what r.0 (first_no_cle v ws a h)
+no_cut v ws [] a (q ∷ ts) rest h r = no_pragma v.what q.what r.0 (first_no_cle v ws a h)
 
 -- ---- one item
 
-record Cuts (ms : Spelling) (bs : List Bracket) (a : Bool) (ts rest : Pieces) : Type 0 where
-  pieces : Pieces
-  cut_is : cut_from bs a ts ≡ pieces ∷ cut_from [] false rest
-  reads : Reads ms pieces []
+record Cuts (ms : Spelling) (bs : List Bracket) (a : Bool) (ts rest : Terminals) : Type 0 where
+  terminals : Terminals
+  cut_is : cut_from bs a ts ≡ terminals ∷ cut_from [] false rest
+  reads : Reads ms terminals []
 
-last_cut : (w : Wanted) (bs : List Bracket) (a : Bool) (p : Piece) (ts : Pieces) → ends_item bs (effect a p.what) ≡ true → is_close p.what ≡ false → cut_from bs a (p ∷ ts) ≡ (p ∷ []) ∷ cut_from [] false ts
+last_cut : (w : Wanted) (bs : List Bracket) (a : Bool) (p : Terminal) (ts : Terminals) → ends_item bs (effect a p.what) ≡ true → is_close p.what ≡ false → cut_from bs a (p ∷ ts) ≡ (p ∷ []) ∷ cut_from [] false ts
 unfolding cut_from
 last_cut w bs a p ts e c =
     let here : ends_here bs (effect a p.what) ts ≡ true = rw e refl in
     let none_open : open_after bs (effect a p.what) ≡ [] = all_closed bs (effect a p.what) ts here in
     rw (here, none_open, c) refl
 
-next_cut : (bs : List Bracket) (a : Bool) (p : Piece) (ts xs rest : Pieces) → ends_item bs (effect a p.what) ≡ false → (is_empty (open_after bs (effect a p.what)) && is_directive_first ts) ≡ false → cut_from (open_after bs (effect a p.what)) (is_close p.what) ts ≡ xs ∷ cut_from [] false rest → cut_from bs a (p ∷ ts) ≡ (p ∷ xs) ∷ cut_from [] false rest
+next_cut : (bs : List Bracket) (a : Bool) (p : Terminal) (ts xs rest : Terminals) → ends_item bs (effect a p.what) ≡ false → (is_empty (open_after bs (effect a p.what)) && is_pragma_first ts) ≡ false → cut_from (open_after bs (effect a p.what)) (is_close p.what) ts ≡ xs ∷ cut_from [] false rest → cut_from bs a (p ∷ ts) ≡ (p ∷ xs) ∷ cut_from [] false rest
 unfolding cut_from
 next_cut bs a p ts xs rest e f c =
     let here : ends_here bs (effect a p.what) ts ≡ false = rw (e, f) refl in
     rw (here, c) refl
 
-item_cuts : (ms : Spelling) (bs : List Bracket) (a : Bool) (ts rest : Pieces) → Ends bs a ms → Reads ms ts rest → Cuts ms bs a ts rest
+item_cuts : (ms : Spelling) (bs : List Bracket) (a : Bool) (ts rest : Terminals) → Ends bs a ms → Reads ms ts rest → Cuts ms bs a ts rest
 item_cuts [] bs a ts rest h r = absurd h
 item_cuts (w ∷ ms) bs a [] rest h r = absurd r
 item_cuts (w ∷ []) bs a (p ∷ ts) rest h r =
     let e : ends_item bs (effect a p.what) ≡ true = ap (λ (x : Effect). ends_item bs x) (meets_effect a w.what p.what r.0) ∙ h.0 in
     let c : is_close p.what ≡ false = meets_closes w.what p.what r.0 ∙ h.2 in
     record {
-      pieces = p ∷ [];
-      cut_is = last_cut w bs a p ts e c ∙ ap (λ (us : Pieces). (p ∷ []) ∷ cut_from [] false us) r.2;
+      terminals = p ∷ [];
+      cut_is = last_cut w bs a p ts e c ∙ ap (λ (us : Terminals). (p ∷ []) ∷ cut_from [] false us) r.2;
       reads = (r.0, r.1, refl);
     }
 item_cuts (w ∷ v ∷ ms) bs a (p ∷ ts) rest h r =
@@ -155,8 +155,8 @@ item_cuts (w ∷ v ∷ ms) bs a (p ∷ ts) rest h r =
     let f = no_cut v ms (open_after bs (effect a p.what)) (is_close p.what) ts rest more r.2 in
     let g = item_cuts (v ∷ ms) (open_after bs (effect a p.what)) (is_close p.what) ts rest more r.2 in
     record {
-      pieces = p ∷ g.pieces;
-      cut_is = next_cut bs a p ts g.pieces rest e f g.cut_is;
+      terminals = p ∷ g.terminals;
+      cut_is = next_cut bs a p ts g.terminals rest e f g.cut_is;
       reads = (r.0, r.1, g.reads);
     }
 
@@ -164,18 +164,18 @@ cle_spelling : (p : Pragma) (line : ℕ) → item_spelling (item.Cle p line) ≡
 unfolding item_spelling
 cle_spelling p line = refl
 
-cle_cuts : (g : Pragma) (line : ℕ) (ts rest : Pieces) → Reads (put_at line (sign.Cle g) []) ts rest → Cuts (put_at line (sign.Cle g) []) [] false ts rest
+cle_cuts : (g : Pragma) (line : ℕ) (ts rest : Terminals) → Reads (put_at line (sign.Cle g) []) ts rest → Cuts (put_at line (sign.Cle g) []) [] false ts rest
 cle_cuts g line [] rest r = absurd r
 cle_cuts g line (p ∷ ts) rest r =
     let e : ends_item [] (effect false p.what) ≡ true = ap (λ (x : Sign). ends_item [] (effect false x)) r.0 in
     let c : is_close p.what ≡ false = ap (λ (x : Sign). is_close x) r.0 in
     record {
-      pieces = p ∷ [];
-      cut_is = last_cut (record { what = is (sign.Cle g); lines = [] }) [] false p ts e c ∙ ap (λ (us : Pieces). (p ∷ []) ∷ cut_from [] false us) r.2;
+      terminals = p ∷ [];
+      cut_is = last_cut (record { what = is (sign.Cle g); lines = [] }) [] false p ts e c ∙ ap (λ (us : Terminals). (p ∷ []) ∷ cut_from [] false us) r.2;
       reads = (r.0, r.1, refl);
     }
 
-whole_cuts : (i : Item) (ts rest : Pieces) → Reads (item_spelling i) ts rest → Cuts (item_spelling i) [] false ts rest
+whole_cuts : (i : Item) (ts rest : Terminals) → Reads (item_spelling i) ts rest → Cuts (item_spelling i) [] false ts rest
 whole_cuts i ts rest r = by (form i)
   where
     by : Form i → Cuts (item_spelling i) [] false ts rest
@@ -190,59 +190,59 @@ abbrev All_items : List Item → Type 0
 All_items [] = Unit {0}
 All_items (i ∷ more) = (is_well_formed i ≡ true) × All_items more
 
-no_items : (ts : Pieces) → ts ≡ [] → AreItems (cut_from [] false ts) []
+no_items : (ts : Terminals) → ts ≡ [] → AreItems (cut_from [] false ts) []
 unfolding cut_from
 no_items [] e = tt
 no_items (t ∷ ts) e = absurd cc
 
-items_cut : (all : List Item) (ts : Pieces) → All_items all → Reads (flat_map item_spelling all) ts [] → AreItems (cut_from [] false ts) all
+items_cut : (all : List Item) (ts : Terminals) → All_items all → Reads (flat_map item_spelling all) ts [] → AreItems (cut_from [] false ts) all
 items_cut [] ts h r = no_items ts r
 items_cut (i ∷ more) ts h r =
     let s = reads_split (item_spelling i) (flat_map item_spelling more) ts [] r in
     let c = whole_cuts i ts s.0 s.1 in
-    subst (λ (pss : List Pieces). AreItems pss (i ∷ more)) (sym c.cut_is) (record { well_formed = h.0; reads = c.reads }, items_cut more s.0 h.1 s.2)
+    subst (λ (pss : List Terminals). AreItems pss (i ∷ more)) (sym c.cut_is) (record { well_formed = h.0; reads = c.reads }, items_cut more s.0 h.1 s.2)
 
 all_items : (all : List Item) → WellFormed (record { items = all }) → All_items all
 all_items [] h = tt
 all_items (i ∷ more) h = (h.0, all_items more h.1)
 
-pub spelling_cut : (p : Program) (ps : List Piece) → WellFormed p → Reads (program_spelling p) ps [] → AreItems (cut ps) p.items
+pub spelling_cut : (p : Program) (ps : List Terminal) → WellFormed p → Reads (program_spelling p) ps [] → AreItems (cut ps) p.items
 unfolding cut program_spelling
 spelling_cut p ps h r = items_cut p.items ps (all_items p.items h) r
 
 -- ---- and back
 
-joined_parts : (b : Bool) (p : Piece) (pss : List Pieces) → flat_map (λ ps. ps) (joined b p pss) ≡ p ∷ flat_map (λ ps. ps) pss
+joined_parts : (b : Bool) (p : Terminal) (pss : List Terminals) → flat_map (λ ps. ps) (joined b p pss) ≡ p ∷ flat_map (λ ps. ps) pss
 joined_parts true p pss = refl
 joined_parts false p [] = refl
 joined_parts false p (ps ∷ pss) = refl
 
-parts_of_cut : (bs : List Bracket) (a : Bool) (ps : Pieces) → flat_map (λ ps. ps) (cut_from bs a ps) ≡ ps
+parts_of_cut : (bs : List Bracket) (a : Bool) (ps : Terminals) → flat_map (λ ps. ps) (cut_from bs a ps) ≡ ps
 unfolding cut_from
 parts_of_cut bs a [] = refl
-parts_of_cut bs a (p ∷ ps) = joined_parts _ p _ ∙ ap (λ (us : Pieces). p ∷ us) (parts_of_cut (open_after bs (effect a p.what)) (is_close p.what) ps)
+parts_of_cut bs a (p ∷ ps) = joined_parts _ p _ ∙ ap (λ (us : Terminals). p ∷ us) (parts_of_cut (open_after bs (effect a p.what)) (is_close p.what) ps)
 
-reads_before : (ms : Spelling) (ts rest : Pieces) → Reads ms ts [] → Reads ms (ts ++ rest) rest
+reads_before : (ms : Spelling) (ts rest : Terminals) → Reads ms ts [] → Reads ms (ts ++ rest) rest
 reads_before [] [] rest r = refl
 reads_before [] (t ∷ ts) rest r = absurd cc
 reads_before (m ∷ ms) [] rest r = absurd r
 reads_before (m ∷ ms) (t ∷ ts) rest r = (r.0, r.1, reads_before ms ts rest r.2)
 
-items_spelled : (pss : List Pieces) (all : List Item) → AreItems pss all → Reads (flat_map item_spelling all) (flat_map (λ ps. ps) pss) []
+items_spelled : (pss : List Terminals) (all : List Item) → AreItems pss all → Reads (flat_map item_spelling all) (flat_map (λ ps. ps) pss) []
 items_spelled [] [] h = refl
 items_spelled (ps ∷ pss) (i ∷ more) h = reads_append (item_spelling i) (flat_map item_spelling more) (ps ++ flat_map (λ ps. ps) pss) (flat_map (λ ps. ps) pss) [] (reads_before (item_spelling i) ps (flat_map (λ ps. ps) pss) h.0.reads) (items_spelled pss more h.1)
 items_spelled [] (i ∷ more) h = absurd h
 items_spelled (ps ∷ pss) [] h = absurd h
 
-items_well : (pss : List Pieces) (all : List Item) → AreItems pss all → WellFormed (record { items = all })
+items_well : (pss : List Terminals) (all : List Item) → AreItems pss all → WellFormed (record { items = all })
 items_well [] [] h = tt
 items_well (ps ∷ pss) (i ∷ more) h = (h.0.well_formed, items_well pss more h.1)
 items_well [] (i ∷ more) h = absurd h
 items_well (ps ∷ pss) [] h = absurd h
 
-pub cut_spelled : (p : Program) (ps : List Piece) → AreItems (cut ps) p.items → WellFormed p × Reads (program_spelling p) ps []
+pub cut_spelled : (p : Program) (ps : List Terminal) → AreItems (cut ps) p.items → WellFormed p × Reads (program_spelling p) ps []
 unfolding cut program_spelling
 cut_spelled p ps h = (
   items_well (cut_from [] false ps) p.items h,
-  subst (λ (us : Pieces). Reads (flat_map item_spelling p.items) us []) (parts_of_cut [] false ps) (items_spelled (cut_from [] false ps) p.items h),
+  subst (λ (us : Terminals). Reads (flat_map item_spelling p.items) us []) (parts_of_cut [] false ps) (items_spelled (cut_from [] false ps) p.items h),
 )

@@ -1,4 +1,4 @@
--- Within the spelling of an item no piece ends it but the last.
+-- Within the spelling of an item no terminal ends it but the last.
 use Rattle.std.proofs.Common.{◌≡◌, ℕ, zero, suc, List, [], ◌∷◌, ◌++◌, map, refl, subst, sym, ap, ◌∙◌, Bool, true, false, not, ◌&&◌, ◌||◌, Option, Some, None, append_assoc}
 use Rattle.std.specs.List.{flat_map}
 use Rattle.cl_tree.specs.declared.kinds.UnOp.{UnOp}
@@ -17,10 +17,10 @@ use Rattle.cl_tree.specs.declared.tree.Expr.{Expr}
 use Rattle.cl_tree.specs.declared.tree.Node.{Node, Node-F, out-Node}
 use Rattle.cl_tree.specs.declared.tree.Node.TheOpen as node
 use Rattle.cl_tree.specs.Spelling.{Want, is, size, Wanted, Spelling, put_on, put, put_mark, mark_on, mark_at, put_size, first_on, commas, is_empty, base_on, stars_on, dims_then, type_name, type_shape, held_by, star_lines, floating_lines, other_lines, Shape, node_step, shape, unary_mark, binary_mark}
-use Rattle.cl_tree.specs.Items.{Bracket, round, square, brace, body, Effect, opens, closes, semicolon, directive, none, effect, mark_effect, open_after, ends_item, is_close, is_partner, is_body_bracket}
+use Rattle.cl_tree.specs.Items.{Bracket, round, square, brace, body, Effect, opens, closes, semicolon, pragma_line, none, effect, mark_effect, open_after, ends_item, is_close, is_partner, is_body_bracket}
 use Rattle.cl_parse_expr.proofs.Shapes.{Parts, expr_induction, shape_is, shaped, Each}
 
--- ---- one piece
+-- ---- one terminal
 
 abbrev pub want_effect : Bool → Want → Effect
 want_effect a (is s) = effect a s
@@ -34,7 +34,7 @@ abbrev pub is_cle : Want → Bool
 is_cle (is (sign.Cle p)) = true
 is_cle _ = false
 
--- Where these brackets are open, the last piece ends the item, and no other does.
+-- Where these brackets are open, the last terminal ends the item, and no other does.
 abbrev pub Ends : List Bracket → Bool → Spelling → Type 0
 Ends bs a [] = ⊥
 Ends bs a (w ∷ []) = (ends_item bs (want_effect a w.what) ≡ true) × (is_cle w.what ≡ false) × (want_closes w.what ≡ false)
@@ -87,7 +87,7 @@ close_step m b d ms bs a e p q h =
 pub semicolon_step : (lines : List ℕ) (ms : Spelling) (b : Bracket) (bs : List Bracket) (a : Bool) → Ends (b ∷ bs) false ms → Ends (b ∷ bs) a (mark_on lines mark.Semicolon ms)
 semicolon_step lines ms b bs a h = step (record { what = is (sign.Mark mark.Semicolon); lines = lines }) ms (b ∷ bs) a refl h
 
--- ---- pieces that leave the brackets as they are
+-- ---- terminals that leave the brackets as they are
 
 -- whatever is open, and whatever stands before
 abbrev pub Through : Spelling → Type 0

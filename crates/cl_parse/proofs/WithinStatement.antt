@@ -1,4 +1,4 @@
--- Within the spelling of a declaration or a statement no piece ends its item.
+-- Within the spelling of a declaration or a statement no terminal ends its item.
 use Rattle.std.proofs.Common.{◌≡◌, ℕ, List, [], ◌∷◌, ◌++◌, map, refl, subst, sym, ap, ◌∙◌, Bool, true, false, ◌&&◌, Option, Some, None, append_assoc, option_map}
 use Rattle.std.specs.List.{flat_map}
 use Rattle.cl_tree.specs.declared.kinds.BinOp.{BinOp}
@@ -20,13 +20,14 @@ use Rattle.cl_tree.specs.declared.tree.Act.TheOpen as act
 use Rattle.cl_tree.specs.Spelling.{is, Spelling, put_at, put_on, put_mark, held_by, star_lines, put_key, mark_on, mark_at, key_on, first_on, commas, is_empty, base_on, stars_on, dims_then, type_shape, shape}
 use Rattle.cl_tree.specs.Statements.{InitShape, init_step, init_shape, initialiser, declarator, base_lines, first_lines, common_base, declared, declaration, StmtShape, act_step, stmt_shape, assign_mark, bump_mark, statements, head_first, head_test, head_next}
 use Rattle.cl_tree.specs.Items.{Bracket, round, brace, body, brace_after, opens, closes, none, mark_effect, is_partner, is_body_bracket}
+use Rattle.cl_parse_stmt.proofs.Declared.{init_is}
 use Rattle.cl_parse_stmt.proofs.Stated.{stmt_shaped, stmt_shape_is, for_is, for_shape}
 use Rattle.cl_parse.proofs.Induct.{Each, InitParts, init_induction, Maybe, StmtParts, stmt_induction}
 use Rattle.cl_parse.proofs.Within.{Ends, step, plain_step, open_step, close_step, semicolon_step, Through, nothing_through, through_append, plain_through, first_through, in_brackets, base_goes, stars_goes, dims_goes, Throughs, commas_through, expr_through}
 
 -- ---- initialisers
 
--- behind a piece that is no `)`
+-- behind a terminal that is no `)`
 abbrev pub Inner : Spelling → Type 0
 Inner ms = (bs : List Bracket) (rest : Spelling) → ((c : Bool) → Ends bs c rest) → Ends bs false (ms ++ rest)
 
@@ -51,10 +52,6 @@ InitInner i = Inner (init_shape i).spelling
 all_inits_inner : (all : List Init) → Each InitInner all → Inners (map (λ s. s.spelling) (map init_shape all))
 all_inits_inner [] h = tt
 all_inits_inner (i ∷ more) h = (h.0, all_inits_inner more h.1)
-
-init_is : (i : Init) → init_shape i ≡ init_step (map-Init Init InitShape init_shape (out-Init i))
-unfolding init_shape
-init_is i = fold_out-Init InitShape init_step i
 
 init_inner_step : (x : Init-F Init) → InitParts InitInner x → Inner (init_step (map-Init Init InitShape init_shape x)).spelling
 init_inner_step (init.One e) h = λ bs rest k. expr_through e bs false rest k

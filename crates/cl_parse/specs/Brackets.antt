@@ -16,7 +16,7 @@ abbrev pub effect_of : Effect → items.Effect
 effect_of (effect.Opens b) = items.opens (bracket_of b)
 effect_of (effect.Closes b) = items.closes (bracket_of b)
 effect_of effect.Semicolon = items.semicolon
-effect_of effect.Directive = items.directive
+effect_of effect.Pragma = items.pragma_line
 effect_of effect.Nothing = items.none
 
 -- a stack, from its top

@@ -1,8 +1,8 @@
--- The limits in one walk over the pieces, as the private code has it.
+-- The limits in one walk over the terminals, as the private code has it.
 use Rattle.std.specs.Prelude.{ℕ, suc, ◌+◌, List, [], ◌∷◌, length, Option, Some, None, Bool, ◌||◌, nat_lt, if◌then◌else◌}
 use Rattle.cl_base.specs.declared.limits.TheConstants.{OPEN_BRACKETS, RUN_TOKENS, ITEM_ELSES}
 use Rattle.cl_tree.specs.declared.grammar.Sign.{Sign}
-use Rattle.cl_tree.specs.declared.grammar.Piece.{Piece}
+use Rattle.cl_tree.specs.declared.grammar.Terminal.{Terminal}
 use Rattle.cl_tree.specs.Items.{Bracket, effect, open_after, ends_here, is_close}
 use Rattle.cl_tree.specs.Limits.{is_else, separates}
 
@@ -15,8 +15,8 @@ else_count s = if is_else s then 1 else 0
 abbrev pub unseparated : ℕ → Sign → ℕ
 unseparated n s = if separates s then 0 else suc n
 
--- `elses` are those of the item so far, `run` the pieces since the last separator.
-unfoldable pub limit_from : List Bracket → Bool → ℕ → ℕ → List Piece → Option ℕ
+-- `elses` are those of the item so far, `run` the terminals since the last separator.
+unfoldable pub limit_from : List Bracket → Bool → ℕ → ℕ → List Terminal → Option ℕ
 limit_from bs after elses run [] = None
 limit_from bs after elses run (p ∷ ps) =
     if passes (open_after bs (effect after p.what)) (elses + else_count p.what) (unseparated run p.what)

@@ -6,13 +6,13 @@ ghost use Rattle.cl_tree.specs.Spelling.{is_empty};
 ghost use Rattle.cl_parse.specs.Brackets.{bracket_of, effect_of};
 
 use cl_base::name::NoMemory;
-use cl_tree::grammar::{Piece, Sign};
+use cl_tree::grammar::{Sign, Terminal};
 use cl_tree::token::Mark;
 use std::alloc::{AllocError, Global};
 use std::marker::Model;
 
 /// A bracket. The `{` of a body follows a `)` directly.
-#[derive(Clone, Copy, Debug, PartialEq, Eq)]
+#[derive(Clone, Copy, PartialEq, Eq)]
 pub enum Bracket {
     Round,
     Square,
@@ -20,13 +20,13 @@ pub enum Bracket {
     Body,
 }
 
-/// What a piece does to the brackets that are open.
-#[derive(Clone, Copy, Debug, PartialEq, Eq)]
+/// What a terminal does to the brackets that are open.
+#[derive(Clone, Copy, PartialEq, Eq)]
 pub enum Effect {
     Opens(Bracket),
     Closes(Bracket),
     Semicolon,
-    Directive,
+    Pragma,
     Nothing,
 }
 
@@ -51,13 +51,13 @@ fn mark_effect(after: bool, mark: Mark) -> Effect
     }
 }
 
-/// `after`: the piece before is a `)`.
+/// `after`: the terminal before is a `)`.
 fn sign_effect(after: bool, what: &Sign) -> Effect
     ensures { effect_of result ≡ items.effect after what.now }
 {
     match what {
         Sign::Mark(mark) => mark_effect(after, *mark),
-        Sign::Cle(_) => Effect::Directive,
+        Sign::Cle(_) => Effect::Pragma,
         _ => Effect::Nothing,
     }
 }
@@ -92,10 +92,10 @@ fn is_body(bracket: Bracket) -> bool
     }
 }
 
-fn begins_with_directive(pieces: &[Piece]) -> bool
-    ensures { result ≡ items.is_directive_first pieces.now }
+fn begins_with_pragma(terminals: &[Terminal]) -> bool
+    ensures { result ≡ items.is_pragma_first terminals.now }
 {
-    match pieces {
+    match terminals {
         [first, ..] => match &first.what {
             Sign::Cle(_) => true,
             _ => false,
@@ -105,7 +105,7 @@ fn begins_with_directive(pieces: &[Piece]) -> bool
 }
 
 /// The brackets that are open, which contracts see as a list, the innermost first.
-#[derive(Debug, Drop)]
+#[derive(Drop)]
 pub struct OpenBrackets {
     stack: Vec<Bracket>,
 }
@@ -190,17 +190,17 @@ impl OpenBrackets {
                 Ok(false)
             }
             Effect::Closes(bracket) => Ok(self.close(bracket)),
-            Effect::Semicolon | Effect::Directive => Ok(self.is_empty()),
+            Effect::Semicolon | Effect::Pragma => Ok(self.is_empty()),
             Effect::Nothing => Ok(false),
         }
     }
 
-    /// Goes past a piece, before `next`. Tells whether an item ends with it.
-    pub fn pass(&mut self, after: bool, what: &Sign, next: &[Piece]) -> Result<bool, NoMemory>
+    /// Goes past a terminal, before `next`. Tells whether an item ends with it.
+    pub fn pass(&mut self, after: bool, what: &Sign, next: &[Terminal]) -> Result<bool, NoMemory>
         ensures ends { IfOk result (λ ends. ends ≡ items.ends_here self.old (items.effect after what.now) next.now) }
         ensures open { OnOk result (self.new ≡ items.open_after self.old (items.effect after what.now)) }
     {
         let ends = self.take(sign_effect(after, what))?;
-        Ok(ends || (self.is_empty() && begins_with_directive(next)))
+        Ok(ends || (self.is_empty() && begins_with_pragma(next)))
     }
 }

@@ -1,13 +1,14 @@
 //! The limits of the profile that tokens can pass.
 
 ghost use Rattle.std.specs.Prelude.{◌≡◌, ◌≤◌, [], IfOk, false};
+ghost use Rattle.cl_base.specs.declared.limits.TheConstants.{RUN_TOKENS, ITEM_ELSES};
 ghost use Rattle.cl_tree.specs.Limits as limits;
 ghost use Rattle.cl_parse.specs.Walk.{passes, else_count, unseparated, limit_from};
 
 use crate::brackets::{OpenBrackets, is_close};
 use cl_base::limits::{ITEM_ELSES, OPEN_BRACKETS, RUN_TOKENS};
 use cl_base::name::NoMemory;
-use cl_tree::grammar::{Keyword, Piece, Sign};
+use cl_tree::grammar::{Keyword, Sign, Terminal};
 use cl_tree::token::Mark;
 use std::alloc::Global;
 
@@ -36,9 +37,9 @@ fn separates(what: &Sign) -> bool
     }
 }
 
-/// The pieces since the last separator, the given one with them.
+/// The terminals since the last separator, the given one with them.
 fn unseparated(run: u32, what: &Sign) -> u32
-    requires { run ≤ 512 }
+    requires { run ≤ RUN_TOKENS }
     ensures { result ≡ unseparated run what.now }
 {
     if separates(what) { 0 } else { run + 1 }
@@ -46,21 +47,21 @@ fn unseparated(run: u32, what: &Sign) -> u32
 
 fn is_over(brackets: &OpenBrackets, elses: u32, run: u32) -> bool
     ensures over { result ≡ passes brackets.now elses run }
-    ensures within { result ≡ false → (elses ≤ 256) × (run ≤ 512) }
+    ensures within { result ≡ false → (elses ≤ ITEM_ELSES) × (run ≤ RUN_TOKENS) }
 {
     brackets.len() > OPEN_BRACKETS as usize || elses > ITEM_ELSES || run > RUN_TOKENS
 }
 
 #[tactic(auto, unfolding(crate::specs::Walk::limit_from), using(crate::proofs::Passed::limit_next, crate::proofs::Passed::limit_stop))]
-fn first_over(alloc: Global, pieces: &[Piece]) -> Result<Option<u32>, NoMemory>
-    ensures { IfOk result (λ line. line ≡ limit_from [] false 0 0 pieces.now) }
+fn first_over(alloc: Global, terminals: &[Terminal]) -> Result<Option<u32>, NoMemory>
+    ensures { IfOk result (λ line. line ≡ limit_from [] false 0 0 terminals.now) }
 {
     let mut brackets = OpenBrackets::new(alloc);
     let mut after = false;
     let mut elses = 0;
     let mut run = 0;
-    let mut rest = pieces;
-    'pieces: while let [first, next @ ..] = rest {
+    let mut rest = terminals;
+    'terminals: while let [first, next @ ..] = rest {
         let ends = brackets.pass(after, &first.what, next)?;
         elses += else_count(&first.what);
         run = unseparated(run, &first.what);
@@ -76,11 +77,11 @@ fn first_over(alloc: Global, pieces: &[Piece]) -> Result<Option<u32>, NoMemory>
     Ok(None)
 }
 
-/// The line of the first piece that passes a limit: a 65th open bracket, a 257th `else` in one item, or
-/// a 513th piece in a row without `{`, `}`, `;`, `,` or a directive.
+/// The line of the first terminal that passes a limit: a 65th open bracket, a 257th `else` in one item, or
+/// a 513th terminal in a row without `{`, `}`, `;`, `,` or a pragma line.
 #[tactic(auto, using(crate::proofs::Passed::limit_is))]
-pub fn limit_passed(alloc: Global, pieces: &[Piece]) -> Result<Option<u32>, NoMemory>
-    ensures { IfOk result (λ line. line ≡ limits.limit_passed pieces.now) }
+pub fn limit_passed(alloc: Global, terminals: &[Terminal]) -> Result<Option<u32>, NoMemory>
+    ensures { IfOk result (λ line. line ≡ limits.limit_passed terminals.now) }
 {
-    first_over(alloc, pieces)
+    first_over(alloc, terminals)
 }

@@ -1,7 +1,7 @@
 //! From tokens to the program that they spell.
 
 ghost use Rattle.std.specs.Prelude.{◌≡◌, ◌⊎◌, ℕ, List, [], IfOk, IfErr, MatchResult};
-ghost use Rattle.cl_tree.specs.declared.grammar.Piece.{Piece as PieceValue};
+ghost use Rattle.cl_tree.specs.declared.grammar.Terminal.{Terminal as TerminalValue};
 ghost use Rattle.cl_tree.specs.Spelling.{Reads};
 ghost use Rattle.cl_tree.specs.declared.token.Token.{Token as TokenValue};
 ghost use Rattle.cl_tree.specs.declared.tree.Program.{Program as ProgramValue};
@@ -15,36 +15,36 @@ use crate::stop::ParseStop;
 use cl_parse_expr::cursor::line_of;
 use cl_parse_expr::stop::Stop;
 use cl_parse_stmt::whole::item;
-use cl_pieces::pieces::pieces;
-use cl_tree::grammar::Piece;
+use cl_terminals::terminals::terminals;
+use cl_tree::grammar::Terminal;
 use cl_tree::token::Token;
 use cl_tree::tree::{Item, Program};
 use sqlite_items::Items;
 use std::alloc::Global;
 
-/// One item, or E06 at its first piece.
+/// One item, or E06 at its first terminal.
 #[tactic(auto, using(crate::proofs::Itemwise::item_unread, crate::proofs::Itemwise::same_line))]
-fn read_item(alloc: Global, pieces: &[Piece]) -> Result<Item, ParseStop>
-    ensures { ItemAnswer pieces.now result }
+fn read_item(alloc: Global, terminals: &[Terminal]) -> Result<Item, ParseStop>
+    ensures { ItemAnswer terminals.now result }
 {
-    match item(alloc, pieces) {
+    match item(alloc, terminals) {
         Ok(read) => Ok(read),
         Err(Stop::Memory) => Err(ParseStop::NoMemory),
         Err(Stop::Unread) => Err(ParseStop::Rule {
             rule: 6,
-            line: line_of(pieces),
+            line: line_of(terminals),
         }),
     }
 }
 
-/// The items of pieces, one after the other.
+/// The items of terminals, one after the other.
 #[tactic(auto, using(crate::proofs::Itemwise::goes_cut, crate::proofs::Itemwise::goes_next, crate::proofs::Itemwise::goes_stop, crate::proofs::Itemwise::goes_done, crate::proofs::Cut::first_within, crate::proofs::Cut::first_some))]
-fn read_items(alloc: Global, pieces: &[Piece]) -> Result<Items<Item>, ParseStop>
-    ensures { ItemsAnswer (cut pieces.now) result }
+fn read_items(alloc: Global, terminals: &[Terminal]) -> Result<Items<Item>, ParseStop>
+    ensures { ItemsAnswer (cut terminals.now) result }
 {
     let mut done = Items::new(alloc);
     let mut after = false;
-    let mut rest = pieces;
+    let mut rest = terminals;
     'items: while !rest.is_empty() {
         let (size, closes) = first_item(alloc, after, rest)?;
         let (first, next) = rest.split_at(size);
@@ -59,11 +59,11 @@ fn read_items(alloc: Global, pieces: &[Piece]) -> Result<Items<Item>, ParseStop>
 fn read_program(alloc: Global, tokens: &[Token]) -> Result<Program, ParseStop>
     ensures { ProgramAnswer tokens.now result }
 {
-    let pieces = pieces(alloc, tokens)?;
-    if let Some(line) = limit_passed(alloc, pieces.as_slice())? {
+    let terminals = terminals(alloc, tokens)?;
+    if let Some(line) = limit_passed(alloc, terminals.as_slice())? {
         return Err(ParseStop::Rule { rule: 23, line });
     }
-    let items = read_items(alloc, pieces.as_slice())?;
+    let items = read_items(alloc, terminals.as_slice())?;
     Ok(Program { items })
 }
 
@@ -92,9 +92,9 @@ pub fn one_answer()
     ensures one_failure { (tokens : List TokenValue) (rule line r l : ℕ) → ParseFails tokens rule line → ParseFails tokens r l → (rule ≡ r) × (line ≡ l) }
 {}
 
-/// A law: the spelling of a well-formed program is cut back into its items, and pieces that are cut into
+/// A law: the spelling of a well-formed program is cut back into its items, and terminals that are cut into
 /// its items are that spelling.
 pub fn one_spelling()
-    ensures cut_back { (program : ProgramValue) (pieces : List PieceValue) → WellFormed program → Reads (program_spelling program) pieces [] → AreItems (cut pieces) program.items }
-    ensures spelled { (program : ProgramValue) (pieces : List PieceValue) → AreItems (cut pieces) program.items → WellFormed program × Reads (program_spelling program) pieces [] }
+    ensures cut_back { (program : ProgramValue) (terminals : List TerminalValue) → WellFormed program → Reads (program_spelling program) terminals [] → AreItems (cut terminals) program.items }
+    ensures spelled { (program : ProgramValue) (terminals : List TerminalValue) → AreItems (cut terminals) program.items → WellFormed program × Reads (program_spelling program) terminals [] }
 {}

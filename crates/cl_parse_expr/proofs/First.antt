@@ -1,4 +1,4 @@
--- The first piece of an expression, and the line on which it stands.
+-- The first terminal of an expression, and the line on which it stands.
 use Rattle.std.proofs.Common.{◌≡◌, ℕ, List, [], ◌∷◌, ◌++◌, refl, sym, subst}
 use Rattle.cl_tree.specs.declared.kinds.UnOp.{UnOp}
 use Rattle.cl_tree.specs.declared.kinds.UnOp.TheVariants as unary
@@ -10,7 +10,7 @@ use Rattle.cl_tree.specs.declared.tree.Node.{Node, Node-F, out-Node}
 use Rattle.cl_tree.specs.declared.tree.Node.TheOpen as node
 use Rattle.cl_tree.specs.Spelling.{Want, is, Wanted, Spelling, first_on, Fits, Reads, Shape, node_step, shape, put, put_mark, mark_at, unary_mark, binary_mark}
 use Rattle.cl_parse_expr.specs.declared.cursor.Start.TheVariants as start
-use Rattle.cl_parse_expr.specs.Cursor.{Pieces, start_of, line_of}
+use Rattle.cl_parse_expr.specs.Cursor.{Terminals, start_of, line_of}
 use Rattle.cl_parse_expr.proofs.Shapes.{Parts, expr_induction, shape_is, shaped}
 use Rattle.cl_parse_expr.proofs.Marks.{reads_split, fits_split, first_reads}
 
@@ -63,7 +63,7 @@ begins_step (node.Paren e) l s h = λ e. cc
 pub begins : (e : Expr) → Begins (shape e).spelling
 begins = expr_induction (λ e. Begins (shape e).spelling) (λ e h. subst (λ (y : Shape). Begins y.spelling) (sym (shape_is e)) (begins_step (out-Node e.node) e.line e.second h))
 
--- the line on which the first piece stands
+-- the line on which the first terminal stands
 abbrev pub BeginsOn : ℕ → Spelling → Type 0
 BeginsOn line [] = Unit {0}
 BeginsOn line (m ∷ ms) = (l : ℕ) → Fits m.lines l → l ≡ line
@@ -91,30 +91,30 @@ line_step (node.Paren e) l s = λ y f. f.0
 begins_on : (e : Expr) → BeginsOn e.line (shape e).spelling
 begins_on e = subst (λ (y : Shape). BeginsOn e.line y.spelling) (sym (shape_is e)) (line_step (out-Node e.node) e.line e.second)
 
-found_on : (line : ℕ) (ms : Spelling) (ts mid : Pieces) → Begins ms → BeginsOn line ms → Reads ms ts mid → line_of ts ≡ line
+found_on : (line : ℕ) (ms : Spelling) (ts mid : Terminals) → Begins ms → BeginsOn line ms → Reads ms ts mid → line_of ts ≡ line
 found_on line [] ts mid b on h = absurd b
 found_on line (m ∷ ms) [] mid b on h = absurd h
 found_on line (m ∷ ms) (t ∷ ts) mid b on h = on t.line h.1
 
 -- An expression begins on its line.
-pub first_line : (e : Expr) (ts mid : Pieces) → Reads (shape e).spelling ts mid → line_of ts ≡ e.line
+pub first_line : (e : Expr) (ts mid : Terminals) → Reads (shape e).spelling ts mid → line_of ts ≡ e.line
 first_line e ts mid h = found_on e.line (shape e).spelling ts mid (begins e) (begins_on e) h
 
--- further lines of its first piece, which are its line
-pub begun : (lines : List ℕ) (e : Expr) (ts rest : Pieces) → Fits lines e.line → Reads (shape e).spelling ts rest → Reads (first_on lines (shape e).spelling) ts rest
+-- further lines of its first terminal, which are its line
+pub begun : (lines : List ℕ) (e : Expr) (ts rest : Terminals) → Fits lines e.line → Reads (shape e).spelling ts rest → Reads (first_on lines (shape e).spelling) ts rest
 begun lines e ts rest f h = first_reads lines (shape e).spelling ts rest (subst (λ (y : ℕ). Fits lines y) (sym (first_line e ts rest h)) f) h
 
-first_split : (lines : List ℕ) (ms ns : Spelling) (ts rest : Pieces) → Begins ms → Reads (first_on lines ms ++ ns) ts rest → Fits lines (line_of ts) × Reads (ms ++ ns) ts rest
+first_split : (lines : List ℕ) (ms ns : Spelling) (ts rest : Terminals) → Begins ms → Reads (first_on lines ms ++ ns) ts rest → Fits lines (line_of ts) × Reads (ms ++ ns) ts rest
 first_split lines [] ns ts rest b h = absurd b
 first_split lines (m ∷ ms) ns [] rest b h = absurd h
 first_split lines (m ∷ ms) ns (t ∷ ts) rest b h = let f = fits_split lines m.lines t.line h.1 in (f.0, (h.0, f.1, h.2))
 
--- What stands on the left: further lines of its first piece are its line.
-pub record Led (lines : List ℕ) (a : Expr) (ms : Spelling) (ts rest : Pieces) : Type 0 where
+-- What stands on the left: further lines of its first terminal are its line.
+pub record Led (lines : List ℕ) (a : Expr) (ms : Spelling) (ts rest : Terminals) : Type 0 where
   pub fits : Fits lines a.line
   pub reads : Reads ((shape a).spelling ++ ms) ts rest
 
-pub led : (lines : List ℕ) (a : Expr) (ms : Spelling) (ts rest : Pieces) → Reads (first_on lines (shape a).spelling ++ ms) ts rest → Led lines a ms ts rest
+pub led : (lines : List ℕ) (a : Expr) (ms : Spelling) (ts rest : Terminals) → Reads (first_on lines (shape a).spelling ++ ms) ts rest → Led lines a ms ts rest
 led lines a ms ts rest h =
     let b = first_split lines (shape a).spelling ms ts rest (begins a) h in
     let r = reads_split (shape a).spelling ms ts rest b.1 in

@@ -30,7 +30,7 @@ shape_open p x e = shape_is p ∙ ap (λ (y : Node-F Node Expr). node_step (shap
 pub tree_is : (p : Expr) (x : Node-F Node Expr) → out-Node p.node ≡ x → tree p.line p.second (roll-Node x) ≡ p
 tree_is p x e = ap (λ (n : Node). tree p.line p.second n) (ap (λ (y : Node-F Node Expr). roll-Node y) (sym e) ∙ roll-out-Node p.node)
 
--- above what a piece must bind to be part of the last operand
+-- above what a terminal must bind to be part of the last operand
 abbrev pub edge_of : Node-F Node Expr → ℕ
 edge_of (node.Number v k) = 15
 edge_of node.Real = 15

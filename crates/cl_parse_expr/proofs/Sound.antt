@@ -12,7 +12,7 @@ use Rattle.cl_tree.specs.declared.token.Mark.TheVariants as mark
 use Rattle.cl_tree.specs.declared.grammar.Base.{Base}
 use Rattle.cl_tree.specs.declared.grammar.Sign.{Sign}
 use Rattle.cl_tree.specs.declared.grammar.Sign.TheVariants as sign
-use Rattle.cl_tree.specs.declared.grammar.Piece.{Piece}
+use Rattle.cl_tree.specs.declared.grammar.Terminal.{Terminal}
 use Rattle.cl_tree.specs.declared.tree.CType.{CType}
 use Rattle.cl_tree.specs.declared.tree.Expr.{Expr}
 use Rattle.cl_tree.specs.declared.tree.Node.{Node, Node-F, out-Node}
@@ -27,7 +27,7 @@ use Rattle.cl_parse_expr.specs.declared.cursor.Link.{Link}
 use Rattle.cl_parse_expr.specs.declared.cursor.Link.TheVariants as link
 use Rattle.cl_parse_expr.specs.declared.cursor.Start.{Start}
 use Rattle.cl_parse_expr.specs.declared.cursor.Start.TheVariants as start
-use Rattle.cl_parse_expr.specs.Cursor.{◌>>=◌, Pieces, after, found, name_at, start_of, mark_link, link_of, pull, link_at, line_of}
+use Rattle.cl_parse_expr.specs.Cursor.{◌>>=◌, Terminals, after, found, name_at, start_of, mark_link, link_of, pull, link_at, line_of}
 use Rattle.cl_parse_expr.specs.Types.{base_at, type_of, pointers_at, second_at}
 use Rattle.cl_parse_expr.specs.Reading.{Reader, tree, opening, close, comma, more_at, args_at, cast_from, cast_at, paren_at, start_step, head_step, head_of, grow, loop_of, expr_of, expr_at}
 use Rattle.cl_parse_expr.proofs.Shapes.{shaped, shape_made, edge_of, edge, edge_is, edge_open, IsEdge, binds_from, binds_to}
@@ -35,25 +35,25 @@ use Rattle.cl_parse_expr.proofs.Marks.{some_of, some_is, and_intro, and_elim, re
 use Rattle.cl_parse_expr.proofs.First.{begun}
 use Rattle.cl_parse_expr.proofs.TypeNames.{shape_of, base_sound, Pointed, pointers_sound, plain_is, second_line, star_fits, floating_fits, other_fits}
 
--- how tightly the first piece binds
-abbrev pub pull_at : Pieces → ℕ
+-- how tightly the first terminal binds
+abbrev pub pull_at : Terminals → ℕ
 pull_at [] = 0
 pull_at (t ∷ ts) = pull (link_of t.what)
 
 -- An expression that was read, and may be continued still: at least of a level, from the start, up to the rest.
-pub record Left (k : ℕ) (p : Expr) (start rest : Pieces) : Type 0 where
+pub record Left (k : ℕ) (p : Expr) (start rest : Terminals) : Type 0 where
   pub reads : Reads (shape p).spelling start rest
   pub proper : (shape p).proper ≡ true
   pub level : k ≤ (shape p).level
   pub stops : pull_at rest < edge p
 
 -- and one that is whole
-pub record Whole (k : ℕ) (p : Expr) (start rest : Pieces) : Type 0 where
+pub record Whole (k : ℕ) (p : Expr) (start rest : Terminals) : Type 0 where
   pub left : Left k p start rest
   pub ends : pull_at rest < k
 
 abbrev pub Sound : Reader → Type 0
-Sound E = (k : ℕ) (ts : Pieces) (x : Expr × Pieces) → 1 ≤ k → k ≤ 12 → E k ts ≡ Some x → Whole k x.0 ts x.1
+Sound E = (k : ℕ) (ts : Terminals) (x : Expr × Terminals) → 1 ≤ k → k ≤ 12 → E k ts ≡ Some x → Whole k x.0 ts x.1
 
 -- ---- links
 
@@ -145,29 +145,29 @@ group_mark mark.OpenParen e = refl
 group_mark _ e = absurd cc
 
 -- a link that is taken
-pub record Taken (k : ℕ) (ts : Pieces) (x : Link) (line : ℕ) (next : Pieces) : Type 0 where
-  pub piece : Piece
-  pub is : ts ≡ piece ∷ next
-  pub links : link_of piece.what ≡ x
-  pub at_line : piece.line ≡ line
+pub record Taken (k : ℕ) (ts : Terminals) (x : Link) (line : ℕ) (next : Terminals) : Type 0 where
+  pub terminal : Terminal
+  pub is : ts ≡ terminal ∷ next
+  pub links : link_of terminal.what ≡ x
+  pub at_line : terminal.line ≡ line
   pub level : k ≤ pull x
 
-taken_step : (k : ℕ) (t : Piece) (ts : Pieces) (x : Link × ℕ × Pieces) (b : Bool) → ltb (pull (link_of t.what)) k ≡ b → cond b None (some_of {A = Link × ℕ × Pieces} (link_of t.what, t.line, ts)) ≡ Some x → Taken k (t ∷ ts) x.0 x.1 x.2
+taken_step : (k : ℕ) (t : Terminal) (ts : Terminals) (x : Link × ℕ × Terminals) (b : Bool) → ltb (pull (link_of t.what)) k ≡ b → cond b None (some_of {A = Link × ℕ × Terminals} (link_of t.what, t.line, ts)) ≡ Some x → Taken k (t ∷ ts) x.0 x.1 x.2
 taken_step k t ts x true e f = absurd cc
 taken_step k t ts x false e f =
-    subst (λ (y : Link × ℕ × Pieces). Taken k (t ∷ ts) y.0 y.1 y.2) (some_is (link_of t.what, t.line, ts) x f)
-    (record { piece = t; is = refl; links = refl; at_line = refl; level = ltb-false _ _ e })
+    subst (λ (y : Link × ℕ × Terminals). Taken k (t ∷ ts) y.0 y.1 y.2) (some_is (link_of t.what, t.line, ts) x f)
+    (record { terminal = t; is = refl; links = refl; at_line = refl; level = ltb-false _ _ e })
 
-pub link_sound : (k : ℕ) (ts : Pieces) (x : Link × ℕ × Pieces) → link_at k ts ≡ Some x → Taken k ts x.0 x.1 x.2
+pub link_sound : (k : ℕ) (ts : Terminals) (x : Link × ℕ × Terminals) → link_at k ts ≡ Some x → Taken k ts x.0 x.1 x.2
 unfolding link_at
 link_sound k [] x e = absurd cc
 link_sound k (t ∷ ts) x e = taken_step k t ts x (ltb (pull (link_of t.what)) k) refl e
 
-stop_step : (k : ℕ) (t : Piece) (ts : Pieces) (b : Bool) → ltb (pull (link_of t.what)) k ≡ b → cond b None (some_of {A = Link × ℕ × Pieces} (link_of t.what, t.line, ts)) ≡ None → pull (link_of t.what) < k
+stop_step : (k : ℕ) (t : Terminal) (ts : Terminals) (b : Bool) → ltb (pull (link_of t.what)) k ≡ b → cond b None (some_of {A = Link × ℕ × Terminals} (link_of t.what, t.line, ts)) ≡ None → pull (link_of t.what) < k
 stop_step k t ts true e f = ltb-true _ _ e
 stop_step k t ts false e f = absurd cc
 
-pub link_none : (k : ℕ) (ts : Pieces) → 1 ≤ k → link_at k ts ≡ None → pull_at ts < k
+pub link_none : (k : ℕ) (ts : Terminals) → 1 ≤ k → link_at k ts ≡ None → pull_at ts < k
 unfolding link_at
 link_none k [] h e = h
 link_none k (t ∷ ts) h e = stop_step k t ts (ltb (pull (link_of t.what)) k) refl e
@@ -180,14 +180,14 @@ pull_to link.Index = omega arith
 pull_to link.Member = omega arith
 pull_to link.Arrow = omega arith
 
-pub pull_at_to : (ts : Pieces) → pull_at ts < 15
+pub pull_at_to : (ts : Terminals) → pull_at ts < 15
 pull_at_to [] = omega arith
 pull_at_to (t ∷ ts) = omega (arith, pull_to (link_of t.what))
 
 -- ---- an expression in the making
 
 -- a tree that was built, of which one level is known
-built : (k l s : ℕ) (n : Node) (x : Node-F Node Expr) (start rest : Pieces) → out-Node n ≡ x → Reads (node_step (shaped x) l s).spelling start rest → (node_step (shaped x) l s).proper ≡ true → k ≤ (node_step (shaped x) l s).level → pull_at rest < edge_of x → Left k (tree l s n) start rest
+built : (k l s : ℕ) (n : Node) (x : Node-F Node Expr) (start rest : Terminals) → out-Node n ≡ x → Reads (node_step (shaped x) l s).spelling start rest → (node_step (shaped x) l s).proper ≡ true → k ≤ (node_step (shaped x) l s).level → pull_at rest < edge_of x → Left k (tree l s n) start rest
 built k l s n x start rest o r p v e =
     let q = shape_made l s n x o in
     record {
@@ -200,12 +200,12 @@ built k l s n x start rest o r p v e =
 -- ---- arguments
 
 -- the arguments that were read, from the start up to the rest
-pub record Listed (ps : List Expr) (start rest : Pieces) : Type 0 where
+pub record Listed (ps : List Expr) (start rest : Terminals) : Type 0 where
   pub reads : Reads (flat_map (put_mark mark.Comma) (map (λ s. s.spelling) (map shape ps)) ++ put_mark mark.CloseParen []) start rest
   pub proper : all_proper (map shape ps) ≡ true
 
 -- what a step adds
-more_sound : (E : Reader) → Sound E → (m : ℕ) (done : List Expr) (ts : Pieces) (x : List Expr × Pieces) → more_at E m done ts ≡ Some x → (ps : List Expr) × (x.0 ≡ done ++ ps) × Listed ps ts x.1
+more_sound : (E : Reader) → Sound E → (m : ℕ) (done : List Expr) (ts : Terminals) (x : List Expr × Terminals) → more_at E m done ts ≡ Some x → (ps : List Expr) × (x.0 ≡ done ++ ps) × Listed ps ts x.1
 unfolding more_at
 more_sound E sound zero done ts x e = absurd cc
 more_sound E sound (suc m) done ts x e =
@@ -213,8 +213,8 @@ more_sound E sound (suc m) done ts x e =
       | inl h ↦
           let b = bind_some (after close ts) (λ r. Some (done, r.1)) x h.1 in
           let q = some_is (done, b.0.1) x b.2 in
-          let done-is : x.0 ≡ done = sym (ap (λ (y : List Expr × Pieces). y.0) q) in
-          let rest-is : b.0.1 ≡ x.1 = ap (λ (y : List Expr × Pieces). y.1) q in
+          let done-is : x.0 ≡ done = sym (ap (λ (y : List Expr × Terminals). y.0) q) in
+          let rest-is : b.0.1 ≡ x.1 = ap (λ (y : List Expr × Terminals). y.1) q in
           ([], done-is ∙ sym (append-nil done), record { reads = found_sound close [] [] ts x.1 b.0 b.1 tt rest-is; proper = refl })
       | inr h ↦
           let b = bind_some (E 1 h.0.1) (λ r. more_at E m (done ++ r.0 ∷ []) r.1) x h.2 in
@@ -232,7 +232,7 @@ more_sound E sound (suc m) done ts x e =
           )
     ]
 
-args_sound : (E : Reader) → Sound E → (ts : Pieces) (x : List Expr × Pieces) → args_at E ts ≡ Some x → Reads (commas (map (λ s. s.spelling) (map shape x.0)) ++ put_mark mark.CloseParen []) ts x.1 × (all_proper (map shape x.0) ≡ true)
+args_sound : (E : Reader) → Sound E → (ts : Terminals) (x : List Expr × Terminals) → args_at E ts ≡ Some x → Reads (commas (map (λ s. s.spelling) (map shape x.0)) ++ put_mark mark.CloseParen []) ts x.1 × (all_proper (map shape x.0) ≡ true)
 unfolding args_at
 args_sound E sound ts x e =
     elim (found_ok (after close ts) (λ c. Some ([], c.1)) (E 1 ts >>= λ r. more_at E (length r.1) (r.0 ∷ []) r.1) (Some x) e) [
@@ -249,19 +249,19 @@ args_sound E sound ts x e =
           )
       | inr h ↦
           let q = some_is ([], h.0.1) x h.2 in
-          let rest-is : h.0.1 ≡ x.1 = ap (λ (y : List Expr × Pieces). y.1) q in
-          let none : [] ≡ x.0 = ap (λ (y : List Expr × Pieces). y.0) q in
+          let rest-is : h.0.1 ≡ x.1 = ap (λ (y : List Expr × Terminals). y.1) q in
+          let none : [] ≡ x.0 = ap (λ (y : List Expr × Terminals). y.0) q in
           subst (λ (ps : List Expr). Reads (commas (map (λ s. s.spelling) (map shape ps)) ++ put_mark mark.CloseParen []) ts x.1 × (all_proper (map shape ps) ≡ true)) none
           (found_sound close [] [] ts x.1 h.0 h.1 tt rest-is, refl)
     ]
 
 -- ---- the head of an expression: of level 12 at least
 
-abbrev Headed : Expr × Pieces → Pieces → Type 0
+abbrev Headed : Expr × Terminals → Terminals → Type 0
 Headed x ts = Left 12 x.0 ts x.1
 
 -- a type that was read, with what follows it
-pub name_spelled : (b : Base) (f o : ℕ) (ts : Pieces) (t : CType) (next : Pieces) (p : Pointed b 0 ts (t, next)) (ms : Spelling) (rest : Pieces) → Reads ms next rest → Reads (stars_on (star_lines (held_by t) (second_at b f o ts)) (type_shape t).stars ms) ts rest
+pub name_spelled : (b : Base) (f o : ℕ) (ts : Terminals) (t : CType) (next : Terminals) (p : Pointed b 0 ts (t, next)) (ms : Spelling) (rest : Terminals) → Reads ms next rest → Reads (stars_on (star_lines (held_by t) (second_at b f o ts)) (type_shape t).stars ms) ts rest
 name_spelled b f o ts t next p ms rest r =
     let n : p.count + 0 ≡ p.count = omega arith in
     let e : type_shape t ≡ shape_of b p.count [] = p.shape ∙ ap (λ (y : ℕ). shape_of b y []) n in
@@ -270,27 +270,27 @@ name_spelled b f o ts t next p ms rest r =
     (p.reads (star_lines (holder p.count b) (second_at b f o ts)) ms rest (subst (λ (y : ℕ). Fits (star_lines (holder p.count b) y) (line_of ts)) (sym s) (star_fits (holder p.count b) (line_of ts) f o)) r)
 
 -- the lines of the second line's other two places
-pub other_place : (b : Base) (f o : ℕ) (ts : Pieces) (t : CType) (next : Pieces) (p : Pointed b 0 ts (t, next)) → Fits (other_lines (held_by t) (second_at b f o ts)) o
+pub other_place : (b : Base) (f o : ℕ) (ts : Terminals) (t : CType) (next : Terminals) (p : Pointed b 0 ts (t, next)) → Fits (other_lines (held_by t) (second_at b f o ts)) o
 other_place b f o ts t next p =
     let n : p.count + 0 ≡ p.count = omega arith in
     let e : type_shape t ≡ shape_of b p.count [] = p.shape ∙ ap (λ (y : ℕ). shape_of b y []) n in
     subst (λ (y : TypeShape). Fits (other_lines (holder y.stars y.base) (second_at b f o ts)) o) (sym e)
     (subst (λ (y : ℕ). Fits (other_lines (holder p.count b) y) o) (sym (p.second f o)) (other_fits (holder p.count b) (line_of ts) f o))
 
-pub floating_place : (b : Base) (f o : ℕ) (ts : Pieces) (t : CType) (next : Pieces) (p : Pointed b 0 ts (t, next)) → Fits (floating_lines (held_by t) (second_at b f o ts)) f
+pub floating_place : (b : Base) (f o : ℕ) (ts : Terminals) (t : CType) (next : Terminals) (p : Pointed b 0 ts (t, next)) → Fits (floating_lines (held_by t) (second_at b f o ts)) f
 floating_place b f o ts t next p =
     let n : p.count + 0 ≡ p.count = omega arith in
     let e : type_shape t ≡ shape_of b p.count [] = p.shape ∙ ap (λ (y : ℕ). shape_of b y []) n in
     subst (λ (y : TypeShape). Fits (floating_lines (holder y.stars y.base) (second_at b f o ts)) f) (sym e)
     (subst (λ (y : ℕ). Fits (floating_lines (holder p.count b) y) f) (sym (p.second f o)) (floating_fits (holder p.count b) (line_of ts) f o))
 
-pub base_place : (b : Base) (ts : Pieces) (t : CType) (next : Pieces) (p : Pointed b 0 ts (t, next)) → (type_shape t).base ≡ b
+pub base_place : (b : Base) (ts : Terminals) (t : CType) (next : Terminals) (p : Pointed b 0 ts (t, next)) → (type_shape t).base ≡ b
 base_place b ts t next p = ap (λ (y : TypeShape). y.base) p.shape
 
-pub type_place : (b : Base) (ts : Pieces) (t : CType) (next : Pieces) (p : Pointed b 0 ts (t, next)) → (is_empty (type_shape t).dims && (type_shape t).proper) ≡ true
+pub type_place : (b : Base) (ts : Terminals) (t : CType) (next : Terminals) (p : Pointed b 0 ts (t, next)) → (is_empty (type_shape t).dims && (type_shape t).proper) ≡ true
 type_place b ts t next p = subst (λ (y : TypeShape). (is_empty y.dims && y.proper) ≡ true) (sym p.shape) refl
 
-cast_sound : (E : Reader) → Sound E → (t : Piece) → t.what ≡ sign.Mark mark.OpenParen → (us : Pieces) (b : Base × ℕ × Pieces) → base_at us ≡ Some b → (x : Expr × Pieces) → cast_at E t.line b.0 b.1 b.2 ≡ Some x → Headed x (t ∷ us)
+cast_sound : (E : Reader) → Sound E → (t : Terminal) → t.what ≡ sign.Mark mark.OpenParen → (us : Terminals) (b : Base × ℕ × Terminals) → base_at us ≡ Some b → (x : Expr × Terminals) → cast_at E t.line b.0 b.1 b.2 ≡ Some x → Headed x (t ∷ us)
 unfolding cast_at cast_from
 cast_sound E sound t is us b found-base x e =
     let p = pointers_at (length b.2) (type_of b.0) b.2 in
@@ -306,24 +306,24 @@ cast_sound E sound t is us b found-base x e =
     let named : Reads (type_name [] p.0 second inside) us i.0.1 =
     subst (λ (y : Base). Reads (base_on (floating_lines (held_by p.0) second) y (stars_on (star_lines (held_by p.0) second) (type_shape p.0).stars inside)) us i.0.1) (sym (base_place b.0 b.2 p.0 p.1 w))
     (base_sound us b found-base (floating_lines (held_by p.0) second) _ i.0.1 (floating_place b.0 b.1 t.line b.2 p.0 p.1 w) stars) in
-    subst (λ (y : Expr × Pieces). Headed y (t ∷ us)) z
+    subst (λ (y : Expr × Terminals). Headed y (t ∷ us)) z
     (built 12 t.line second (made.Cast p.0 i.0.0) (node.Cast p.0 i.0.0) (t ∷ us) i.0.1 (outs-Cast p.0 i.0.0)
     (is, (refl, other_place b.0 b.1 t.line b.2 p.0 p.1 w), named)
     (and_intro _ _ (type_place b.0 b.2 p.0 p.1 w) (and_intro _ _ (le-leb 12 _ v.left.level) v.left.proper)) (omega arith) v.ends)
 
-paren_sound : (E : Reader) → Sound E → (t : Piece) → t.what ≡ sign.Mark mark.OpenParen → (ts : Pieces) (x : Expr × Pieces) → paren_at E t.line ts ≡ Some x → Headed x (t ∷ ts)
+paren_sound : (E : Reader) → Sound E → (t : Terminal) → t.what ≡ sign.Mark mark.OpenParen → (ts : Terminals) (x : Expr × Terminals) → paren_at E t.line ts ≡ Some x → Headed x (t ∷ ts)
 unfolding paren_at
 paren_sound E sound t is ts x e =
     let b = bind_some (E 1 ts) (λ r. after close r.1 >>= λ c. Some (tree t.line t.line (made.Paren r.0), c.1)) x e in
     let c = bind_some (after close b.0.1) (λ c. Some (tree t.line t.line (made.Paren b.0.0), c.1)) x b.2 in
     let w = sound 1 ts b.0 (omega arith) (omega arith) b.1 in
     let z = some_is (tree t.line t.line (made.Paren b.0.0), c.0.1) x c.2 in
-    subst (λ (y : Expr × Pieces). Headed y (t ∷ ts)) z
+    subst (λ (y : Expr × Terminals). Headed y (t ∷ ts)) z
     (built 12 t.line t.line (made.Paren b.0.0) (node.Paren b.0.0) (t ∷ ts) c.0.1 (outs-Paren b.0.0)
     (is, (refl, (refl, tt)), reads_append (shape b.0.0).spelling _ ts b.0.1 c.0.1 w.left.reads (found_sound close [] [] b.0.1 c.0.1 c.0 c.1 tt refl))
     w.left.proper (omega arith) (pull_at_to c.0.1))
 
-start_sound : (E : Reader) → Sound E → (t : Piece) (m : Mark) → t.what ≡ sign.Mark m → (y : Start) → start_of m ≡ y → (ts : Pieces) (x : Expr × Pieces) → start_step E t.line y ts ≡ Some x → Headed x (t ∷ ts)
+start_sound : (E : Reader) → Sound E → (t : Terminal) (m : Mark) → t.what ≡ sign.Mark m → (y : Start) → start_of m ≡ y → (ts : Terminals) (x : Expr × Terminals) → start_step E t.line y ts ≡ Some x → Headed x (t ∷ ts)
 unfolding start_step
 start_sound E sound t m is start.Nothing q ts x e = absurd cc
 start_sound E sound t m is start.Group q ts x e =
@@ -336,23 +336,23 @@ start_sound E sound t m is (start.Prefix op) q ts x e =
     let b = bind_some (E 12 ts) (λ r. Some (tree t.line t.line (made.Unary op r.0), r.1)) x e in
     let w = sound 12 ts b.0 (omega arith) (omega arith) b.1 in
     let z = some_is (tree t.line t.line (made.Unary op b.0.0), b.0.1) x b.2 in
-    subst (λ (y : Expr × Pieces). Headed y (t ∷ ts)) z
+    subst (λ (y : Expr × Terminals). Headed y (t ∷ ts)) z
     (built 12 t.line t.line (made.Unary op b.0.0) (node.Unary op b.0.0) (t ∷ ts) b.0.1 (outs-Unary op b.0.0)
     (is ∙ ap (λ (u : Mark). sign.Mark u) (prefix_mark m op q), (refl, (refl, tt)), w.left.reads)
     (and_intro _ _ (le-leb 12 _ w.left.level) w.left.proper) (omega arith) w.ends)
 
--- one piece that is an expression
-leaf_sound : (t : Piece) (s : Sign) → t.what ≡ s → (n : Node) (v : Node-F Node Expr) → out-Node n ≡ v → node_step (shaped v) t.line t.line ≡ leaf s t.line t.line → edge_of v ≡ 15 → (ts : Pieces) (x : Expr × Pieces) → some_of {A = Expr × Pieces} (tree t.line t.line n, ts) ≡ Some x → Headed x (t ∷ ts)
+-- one terminal that is an expression
+leaf_sound : (t : Terminal) (s : Sign) → t.what ≡ s → (n : Node) (v : Node-F Node Expr) → out-Node n ≡ v → node_step (shaped v) t.line t.line ≡ leaf s t.line t.line → edge_of v ≡ 15 → (ts : Terminals) (x : Expr × Terminals) → some_of {A = Expr × Terminals} (tree t.line t.line n, ts) ≡ Some x → Headed x (t ∷ ts)
 leaf_sound t s is n v o step high ts x e =
     let z = some_is (tree t.line t.line n, ts) x e in
-    subst (λ (y : Expr × Pieces). Headed y (t ∷ ts)) z
+    subst (λ (y : Expr × Terminals). Headed y (t ∷ ts)) z
     (built 12 t.line t.line n v (t ∷ ts) ts o
     (subst (λ (y : Shape). Reads y.spelling (t ∷ ts) ts) (sym step) (is, (refl, (refl, tt)), refl))
     (subst (λ (y : Shape). y.proper ≡ true) (sym step) refl)
     (subst (λ (y : Shape). 12 ≤ y.level) (sym step) (omega arith))
     (subst (λ (y : ℕ). pull_at ts < y) (sym high) (pull_at_to ts)))
 
-head_sound_step : (E : Reader) → Sound E → (t : Piece) (y : Sign) → t.what ≡ y → (ts : Pieces) (x : Expr × Pieces) → head_step E t.line y ts ≡ Some x → Headed x (t ∷ ts)
+head_sound_step : (E : Reader) → Sound E → (t : Terminal) (y : Sign) → t.what ≡ y → (ts : Terminals) (x : Expr × Terminals) → head_step E t.line y ts ≡ Some x → Headed x (t ∷ ts)
 head_sound_step E sound t (sign.Integer v k) is ts x e = leaf_sound t _ is (made.Number v k) (node.Number v k) (outs-Number v k) refl refl ts x e
 head_sound_step E sound t sign.Floating is ts x e = leaf_sound t _ is made.Real node.Real outs-Real refl refl ts x e
 head_sound_step E sound t (sign.Letter b) is ts x e = leaf_sound t _ is (made.Letter b) (node.Letter b) (outs-Letter b) refl refl ts x e
@@ -364,31 +364,31 @@ head_sound_step E sound t (sign.Name n) is ts x e =
           let b = bind_some (args_at E h.0.1) (λ r. Some (tree t.line t.line (made.Call n r.0), r.1)) x h.2 in
           let a = args_sound E sound h.0.1 b.0 b.1 in
           let z = some_is (tree t.line t.line (made.Call n b.0.0), b.0.1) x b.2 in
-          subst (λ (y : Expr × Pieces). Headed y (t ∷ ts)) z
+          subst (λ (y : Expr × Terminals). Headed y (t ∷ ts)) z
           (built 12 t.line t.line (made.Call n b.0.0) (node.Call n b.0.0) (t ∷ ts) b.0.1 (outs-Call n b.0.0)
           (is, (refl, (refl, tt)), found_sound opening [] _ ts b.0.1 h.0 h.1 tt a.0) a.1 (omega arith) (pull_at_to b.0.1))
     ]
 head_sound_step E sound t (sign.Mark m) is ts x e = start_sound E sound t m is (start_of m) refl ts x e
 head_sound_step E sound t _ is ts x e = absurd cc
 
-head_sound : (E : Reader) → Sound E → (ts : Pieces) (x : Expr × Pieces) → head_of E ts ≡ Some x → Headed x ts
+head_sound : (E : Reader) → Sound E → (ts : Terminals) (x : Expr × Terminals) → head_of E ts ≡ Some x → Headed x ts
 unfolding head_of
 head_sound E sound [] x e = absurd cc
 head_sound E sound (t ∷ ts) x e = head_sound_step E sound t t.what refl ts x e
 
 -- ---- what a link adds
 
-link_reads : (k : ℕ) (ts : Pieces) (x : Link) (line : ℕ) (next rest : Pieces) (lines : List ℕ) (ms : Spelling) → (x ≡ link.Nothing → ⊥) → (t : Taken k ts x line next) → Fits lines line → Reads ms next rest → Reads (mark_on lines (link_sign x) ms) ts rest
+link_reads : (k : ℕ) (ts : Terminals) (x : Link) (line : ℕ) (next rest : Terminals) (lines : List ℕ) (ms : Spelling) → (x ≡ link.Nothing → ⊥) → (t : Taken k ts x line next) → Fits lines line → Reads ms next rest → Reads (mark_on lines (link_sign x) ms) ts rest
 link_reads k ts x line next rest lines ms some t fits r =
-    subst (λ (u : Pieces). Reads (mark_on lines (link_sign x) ms) u rest) (sym t.is) (links_sign t.piece.what x some t.links, subst (λ (y : ℕ). Fits lines y) (sym t.at_line) fits, r)
+    subst (λ (u : Terminals). Reads (mark_on lines (link_sign x) ms) u rest) (sym t.is) (links_sign t.terminal.what x some t.links, subst (λ (y : ℕ). Fits lines y) (sym t.at_line) fits, r)
 
-pulls : (k : ℕ) (ts : Pieces) (x : Link) (line : ℕ) (next : Pieces) (t : Taken k ts x line next) (n : ℕ) → pull_at ts < n → pull x < n
+pulls : (k : ℕ) (ts : Terminals) (x : Link) (line : ℕ) (next : Terminals) (t : Taken k ts x line next) (n : ℕ) → pull_at ts < n → pull x < n
 pulls k ts x line next t n h =
-    let a : pull_at ts ≡ pull (link_of t.piece.what) = ap pull_at t.is in
-    let b : pull (link_of t.piece.what) ≡ pull x = ap pull t.links in
+    let a : pull_at ts ≡ pull (link_of t.terminal.what) = ap pull_at t.is in
+    let b : pull (link_of t.terminal.what) ≡ pull x = ap pull t.links in
     omega arith
 
-grow_sound : (E : Reader) → Sound E → (k : ℕ) (p : Expr) (start ts : Pieces) → Left k p start ts → (y : Link) (line : ℕ) (next : Pieces) → Taken k ts y line next → (x : Expr × Pieces) → grow E p line y next ≡ Some x → Left k x.0 start x.1
+grow_sound : (E : Reader) → Sound E → (k : ℕ) (p : Expr) (start ts : Terminals) → Left k p start ts → (y : Link) (line : ℕ) (next : Terminals) → Taken k ts y line next → (x : Expr × Terminals) → grow E p line y next ≡ Some x → Left k x.0 start x.1
 unfolding grow
 grow_sound E sound k p start ts l link.Nothing line next t x e = absurd cc
 grow_sound E sound k p start ts l (link.Binary op) line next t x e =
@@ -400,7 +400,7 @@ grow_sound E sound k p start ts l (link.Binary op) line next t x e =
     let above = g.above in
     let below : binds op < edge p = pulls k ts (link.Binary op) line next t (edge p) l.stops in
     let high : binds op ≤ (shape p).level = omega arith in
-    subst (λ (y : Expr × Pieces). Left k y.0 start y.1) z
+    subst (λ (y : Expr × Terminals). Left k y.0 start y.1) z
     (built k p.line line (made.Binary op p q) (node.Binary op p q) start b.0.1 (outs-Binary op p q)
     (reads_append (first_on (p.line ∷ []) (shape p).spelling) _ start ts b.0.1 (begun (p.line ∷ []) p start ts (refl, tt) l.reads) (link_reads k ts (link.Binary op) line next b.0.1 (line ∷ []) (shape q).spelling (λ n. cc) t (refl, tt) w.left.reads))
     (and_intro _ _ (and_intro _ _ (le-leb (binds op) _ high) (le-leb (suc (binds op)) _ w.left.level)) (and_intro _ _ l.proper w.left.proper))
@@ -414,7 +414,7 @@ grow_sound E sound k p start ts l link.Choice line next t x e =
     let z = some_is (tree p.line p.line (made.Choice p a.0.0 b.0.0), b.0.1) x b.2 in
     let g = edge_is p in
     let below : 1 < edge p = pulls k ts link.Choice line next t (edge p) l.stops in
-    subst (λ (y : Expr × Pieces). Left k y.0 start y.1) z
+    subst (λ (y : Expr × Terminals). Left k y.0 start y.1) z
     (built k p.line p.line (made.Choice p a.0.0 b.0.0) (node.Choice p a.0.0 b.0.0) start b.0.1 (outs-Choice p a.0.0 b.0.0)
     (reads_append (first_on (p.line ∷ p.line ∷ []) (shape p).spelling) _ start ts b.0.1 (begun (p.line ∷ p.line ∷ []) p start ts (refl, (refl, tt)) l.reads) (link_reads k ts link.Choice line next b.0.1 [] _ (λ n. cc) t tt
     (reads_append (shape a.0.0).spelling _ next a.0.1 b.0.1 u.left.reads (found_sound (fixed.Mark mark.Colon) [] (shape b.0.0).spelling a.0.1 b.0.1 c.0 c.1 tt w.left.reads))))
@@ -427,7 +427,7 @@ grow_sound E sound k p start ts l link.Index line next t x e =
     let z = some_is (tree p.line line (made.Index p a.0.0), c.0.1) x c.2 in
     let g = edge_is p in
     let below : 14 < edge p = pulls k ts link.Index line next t (edge p) l.stops in
-    subst (λ (y : Expr × Pieces). Left k y.0 start y.1) z
+    subst (λ (y : Expr × Terminals). Left k y.0 start y.1) z
     (built k p.line line (made.Index p a.0.0) (node.Index p a.0.0) start c.0.1 (outs-Index p a.0.0)
     (reads_append (first_on (p.line ∷ []) (shape p).spelling) _ start ts c.0.1 (begun (p.line ∷ []) p start ts (refl, tt) l.reads) (link_reads k ts link.Index line next c.0.1 (line ∷ []) _ (λ n. cc) t (refl, tt)
     (reads_append (shape a.0.0).spelling _ next a.0.1 c.0.1 u.left.reads (found_sound (fixed.Mark mark.CloseBracket) [] [] a.0.1 c.0.1 c.0 c.1 tt refl))))
@@ -438,7 +438,7 @@ grow_sound E sound k p start ts l link.Member line next t x e =
     let z = some_is (tree p.line p.line (made.Member p n.0.0), n.0.2) x n.2 in
     let g = edge_is p in
     let below : 14 < edge p = pulls k ts link.Member line next t (edge p) l.stops in
-    subst (λ (y : Expr × Pieces). Left k y.0 start y.1) z
+    subst (λ (y : Expr × Terminals). Left k y.0 start y.1) z
     (built k p.line p.line (made.Member p n.0.0) (node.Member p n.0.0) start n.0.2 (outs-Member p n.0.0)
     (reads_append (first_on (p.line ∷ p.line ∷ []) (shape p).spelling) _ start ts n.0.2 (begun (p.line ∷ p.line ∷ []) p start ts (refl, (refl, tt)) l.reads) (link_reads k ts link.Member line next n.0.2 [] (put (sign.Name n.0.0) []) (λ n. cc) t tt (name_sound [] [] next n.0.2 n.0 n.1 tt refl)))
     (and_intro _ _ (le-leb 14 _ (g.after below)) l.proper)
@@ -448,13 +448,13 @@ grow_sound E sound k p start ts l link.Arrow line next t x e =
     let z = some_is (tree p.line line (made.Arrow p n.0.0), n.0.2) x n.2 in
     let g = edge_is p in
     let below : 14 < edge p = pulls k ts link.Arrow line next t (edge p) l.stops in
-    subst (λ (y : Expr × Pieces). Left k y.0 start y.1) z
+    subst (λ (y : Expr × Terminals). Left k y.0 start y.1) z
     (built k p.line line (made.Arrow p n.0.0) (node.Arrow p n.0.0) start n.0.2 (outs-Arrow p n.0.0)
     (reads_append (first_on (p.line ∷ []) (shape p).spelling) _ start ts n.0.2 (begun (p.line ∷ []) p start ts (refl, tt) l.reads) (link_reads k ts link.Arrow line next n.0.2 (line ∷ []) (put (sign.Name n.0.0) []) (λ n. cc) t (refl, tt) (name_sound [] [] next n.0.2 n.0 n.1 tt refl)))
     (and_intro _ _ (le-leb 14 _ (g.after below)) l.proper)
     t.level (pull_at_to n.0.2))
 
-loop_sound : (E : Reader) → Sound E → (m k : ℕ) (p : Expr) (start ts : Pieces) → 1 ≤ k → Left k p start ts → (x : Expr × Pieces) → loop_of E m k p ts ≡ Some x → Whole k x.0 start x.1
+loop_sound : (E : Reader) → Sound E → (m k : ℕ) (p : Expr) (start ts : Terminals) → 1 ≤ k → Left k p start ts → (x : Expr × Terminals) → loop_of E m k p ts ≡ Some x → Whole k x.0 start x.1
 unfolding loop_of
 loop_sound E sound zero k p start ts one l x e = absurd cc
 loop_sound E sound (suc m) k p start ts one l x e =
@@ -462,16 +462,16 @@ loop_sound E sound (suc m) k p start ts one l x e =
       | inl h ↦
           let z = some_is (p, ts) x h.1 in
           let w : Whole k p start ts = record { left = l; ends = link_none k ts one h.0 } in
-          subst (λ (y : Expr × Pieces). Whole k y.0 start y.1) z w
+          subst (λ (y : Expr × Terminals). Whole k y.0 start y.1) z w
       | inr h ↦
           let b = bind_some (grow E p h.0.1 h.0.0 h.0.2) (λ r. loop_of E m k r.0 r.1) x h.2 in
           loop_sound E sound m k b.0.0 start b.0.1 one (grow_sound E sound k p start ts l h.0.0 h.0.1 h.0.2 (link_sound k ts h.0 h.1) b.0 b.1) x b.2
     ]
 
-less_left : (k : ℕ) (p : Expr) (start rest : Pieces) → k ≤ 12 → Left 12 p start rest → Left k p start rest
+less_left : (k : ℕ) (p : Expr) (start rest : Terminals) → k ≤ 12 → Left 12 p start rest → Left k p start rest
 less_left k p start rest h l = record { reads = l.reads; proper = l.proper; level = omega (arith, l.level); stops = l.stops }
 
-expr_of_sound : (E : Reader) → Sound E → (k : ℕ) (ts : Pieces) (x : Expr × Pieces) → 1 ≤ k → k ≤ 12 → expr_of E k ts ≡ Some x → Whole k x.0 ts x.1
+expr_of_sound : (E : Reader) → Sound E → (k : ℕ) (ts : Terminals) (x : Expr × Terminals) → 1 ≤ k → k ≤ 12 → expr_of E k ts ≡ Some x → Whole k x.0 ts x.1
 expr_of_sound E sound k ts x one most e =
     let b = bind_some (head_of E ts) (λ h. loop_of E (suc (length h.1)) k h.0 h.1) x e in
     loop_sound E sound (suc (length b.0.1)) k b.0.0 ts b.0.1 one (less_left k b.0.0 ts b.0.1 most (head_sound E sound ts b.0 b.1)) x b.2

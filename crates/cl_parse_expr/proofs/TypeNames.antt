@@ -7,7 +7,7 @@ use Rattle.cl_tree.specs.declared.grammar.Keyword.{Keyword}
 use Rattle.cl_tree.specs.declared.grammar.Keyword.TheVariants as key
 use Rattle.cl_tree.specs.declared.grammar.Sign.{Sign}
 use Rattle.cl_tree.specs.declared.grammar.Sign.TheVariants as sign
-use Rattle.cl_tree.specs.declared.grammar.Piece.{Piece}
+use Rattle.cl_tree.specs.declared.grammar.Terminal.{Terminal}
 use Rattle.cl_tree.specs.declared.tree.CType.{CType, CType-F, out-CType, roll-CType, ind-CType, map-CType, out-roll-CType, roll-out-CType, fold_out-CType}
 use Rattle.cl_tree.specs.declared.tree.CType.TheOpen as layer
 use Rattle.cl_tree.specs.declared.tree.CType.TheVariants as ctype
@@ -16,9 +16,9 @@ use Rattle.cl_tree.specs.Words.{Word}
 use Rattle.cl_tree.specs.Spelling.{Spelling, put_on, put, key_on, Fits, Reads, TypeShape, type_step, type_shape, plain_type, is_empty, base_on, stars_on, Holder, star, floating, other, holder, star_lines, floating_lines, other_lines}
 use Rattle.cl_parse_expr.specs.declared.cursor.Fixed.{Fixed}
 use Rattle.cl_parse_expr.specs.declared.cursor.Fixed.TheVariants as fixed
-use Rattle.cl_parse_expr.specs.Cursor.{◌>>=◌, Pieces, after, found, is_fixed, name_at, line_of}
+use Rattle.cl_parse_expr.specs.Cursor.{◌>>=◌, Terminals, after, found, is_fixed, name_at, line_of}
 use Rattle.cl_parse_expr.specs.Types.{key_base, base_step, base_at, type_of, pointers_at, base_second, second_at}
-use Rattle.cl_parse_expr.proofs.Marks.{some_of, some_is, and_elim, and_intro, fixed_on, Stands, after_reads, found_sound, not_other, bind_some, found_ok, no_pieces, Named, name_reads, name_sound, reads_length}
+use Rattle.cl_parse_expr.proofs.Marks.{some_of, some_is, and_elim, and_intro, fixed_on, Stands, after_reads, found_sound, not_other, bind_some, found_ok, no_terminals, Named, name_reads, name_sound, reads_length}
 
 -- ---- shapes of types
 
@@ -72,7 +72,7 @@ made_of s = arrayed (pointed (type_of s.base) s.stars) s.dims
 abbrev IsMade : CType → Type 0
 IsMade t = (type_shape t).proper ≡ true → made_of (type_shape t) ≡ t
 
-no_dims : (ds : List ℕ) → is_empty ds ≡ true → ds ≡ []
+pub no_dims : (ds : List ℕ) → is_empty ds ≡ true → ds ≡ []
 no_dims [] e = refl
 no_dims (d ∷ ds) e = absurd cc
 
@@ -97,42 +97,42 @@ type_is_made = ind-CType IsMade (λ x y q. subst (λ (z : CType-F CType). IsMade
 
 -- ---- the base
 
-base_found : (l : ℕ) (s : Sign) (ts : Pieces) (x : Base × ℕ × Pieces) → base_step l s ts ≡ Some x → (lines : List ℕ) (ms : Spelling) (t : Piece) (rest : Pieces) → t.what ≡ s → t.line ≡ l → Fits lines x.1 → Reads ms x.2 rest → Reads (base_on lines x.0 ms) (t ∷ ts) rest
+base_found : (l : ℕ) (s : Sign) (ts : Terminals) (x : Base × ℕ × Terminals) → base_step l s ts ≡ Some x → (lines : List ℕ) (ms : Spelling) (t : Terminal) (rest : Terminals) → t.what ≡ s → t.line ≡ l → Fits lines x.1 → Reads ms x.2 rest → Reads (base_on lines x.0 ms) (t ∷ ts) rest
 base_found l (sign.Kind k) ts x e lines ms t rest w a fits reads =
     let z = some_is (base.Kind k, l, ts) x e in
-    subst (λ (y : Base × ℕ × Pieces). Fits lines y.1 → Reads ms y.2 rest → Reads (base_on lines y.0 ms) (t ∷ ts) rest) z
+    subst (λ (y : Base × ℕ × Terminals). Fits lines y.1 → Reads ms y.2 rest → Reads (base_on lines y.0 ms) (t ∷ ts) rest) z
     (λ f r. (w, subst (λ (y : ℕ). Fits lines y) (sym a) f, r)) fits reads
 base_found l sign.Real ts x e lines ms t rest w a fits reads =
     let z = some_is (base.Real, l, ts) x e in
-    subst (λ (y : Base × ℕ × Pieces). Fits lines y.1 → Reads ms y.2 rest → Reads (base_on lines y.0 ms) (t ∷ ts) rest) z
+    subst (λ (y : Base × ℕ × Terminals). Fits lines y.1 → Reads ms y.2 rest → Reads (base_on lines y.0 ms) (t ∷ ts) rest) z
     (λ f r. (w, subst (λ (y : ℕ). Fits lines y) (sym a) f, r)) fits reads
 base_found l (sign.Key key.Void) ts x e lines ms t rest w a fits reads =
     let z = some_is (base.Void, l, ts) x e in
-    subst (λ (y : Base × ℕ × Pieces). Fits lines y.1 → Reads ms y.2 rest → Reads (base_on lines y.0 ms) (t ∷ ts) rest) z
+    subst (λ (y : Base × ℕ × Terminals). Fits lines y.1 → Reads ms y.2 rest → Reads (base_on lines y.0 ms) (t ∷ ts) rest) z
     (λ f r. (w, subst (λ (y : ℕ). Fits lines y) (sym a) f, r)) fits reads
 base_found l (sign.Key key.Struct) ts x e lines ms t rest w a fits reads =
     let n = bind_some (name_at ts) (λ n. Some (base.Tag n.0, l, n.2)) x e in
     let z = some_is (base.Tag n.0.0, l, n.0.2) x n.2 in
-    subst (λ (y : Base × ℕ × Pieces). Fits lines y.1 → Reads ms y.2 rest → Reads (base_on lines y.0 ms) (t ∷ ts) rest) z
+    subst (λ (y : Base × ℕ × Terminals). Fits lines y.1 → Reads ms y.2 rest → Reads (base_on lines y.0 ms) (t ∷ ts) rest) z
     (λ f r. (w, subst (λ (y : ℕ). Fits lines y) (sym a) f, name_sound [] ms ts rest n.0 n.1 tt r)) fits reads
 base_found l _ ts x e lines ms t rest w a fits reads = absurd cc
 
-pub base_sound : (ts : Pieces) (x : Base × ℕ × Pieces) → base_at ts ≡ Some x → (lines : List ℕ) (ms : Spelling) (rest : Pieces) → Fits lines x.1 → Reads ms x.2 rest → Reads (base_on lines x.0 ms) ts rest
+pub base_sound : (ts : Terminals) (x : Base × ℕ × Terminals) → base_at ts ≡ Some x → (lines : List ℕ) (ms : Spelling) (rest : Terminals) → Fits lines x.1 → Reads ms x.2 rest → Reads (base_on lines x.0 ms) ts rest
 unfolding base_at
 base_sound [] x e lines ms rest fits reads = absurd cc
 base_sound (t ∷ ts) x e lines ms rest fits reads = base_found t.line t.what ts x e lines ms t rest refl refl fits reads
 
 -- a base stands at the front, with its line and what follows
-pub record Based (lines : List ℕ) (b : Base) (ms : Spelling) (ts rest : Pieces) : Type 0 where
+pub record Based (lines : List ℕ) (b : Base) (ms : Spelling) (ts rest : Terminals) : Type 0 where
   pub line : ℕ
-  pub next : Pieces
+  pub next : Terminals
   pub fits : Fits lines line
   pub found : base_at ts ≡ Some (b, line, next)
   pub reads : Reads ms next rest
   pub less : length next < length ts
   pub first : line ≡ line_of ts
 
-pub base_reads : (lines : List ℕ) (b : Base) (ms : Spelling) (ts rest : Pieces) → Reads (base_on lines b ms) ts rest → Based lines b ms ts rest
+pub base_reads : (lines : List ℕ) (b : Base) (ms : Spelling) (ts rest : Terminals) → Reads (base_on lines b ms) ts rest → Based lines b ms ts rest
 unfolding base_at
 base_reads lines base.Void ms [] rest h = absurd h
 base_reads lines (base.Kind k) ms [] rest h = absurd h
@@ -154,14 +154,14 @@ begins_type (sign.Key key.Void) = true
 begins_type (sign.Key key.Struct) = true
 begins_type _ = false
 
-no_type_step : (l : ℕ) (s : Sign) (ts : Pieces) → begins_type s ≡ false → base_step l s ts ≡ None
+no_type_step : (l : ℕ) (s : Sign) (ts : Terminals) → begins_type s ≡ false → base_step l s ts ≡ None
 no_type_step l (sign.Kind k) ts e = absurd cc
 no_type_step l sign.Real ts e = absurd cc
 no_type_step l (sign.Key key.Void) ts e = absurd cc
 no_type_step l (sign.Key key.Struct) ts e = absurd cc
 no_type_step l _ ts e = refl
 
-pub no_type : (t : Piece) (ts : Pieces) → begins_type t.what ≡ false → base_at (t ∷ ts) ≡ None
+pub no_type : (t : Terminal) (ts : Terminals) → begins_type t.what ≡ false → base_at (t ∷ ts) ≡ None
 unfolding base_at
 no_type t ts e = no_type_step t.line t.what ts e
 
@@ -204,39 +204,39 @@ base_second_is (base.Kind k) s f o = refl
 base_second_is base.Real s f o = refl
 base_second_is (base.Tag n) s f o = refl
 
-abbrev pub IsSecond : Base → ℕ → Pieces → Type 0
+abbrev pub IsSecond : Base → ℕ → Terminals → Type 0
 IsSecond b n ts = (f o : ℕ) → second_at b f o ts ≡ second_line (holder n b) (line_of ts) f o
 
-second_none : (b : Base) (ts : Pieces) → after asterisk ts ≡ None → IsSecond b zero ts
+second_none : (b : Base) (ts : Terminals) → after asterisk ts ≡ None → IsSecond b zero ts
 unfolding second_at
 second_none b ts e f o = rw e (base_second_is b (line_of ts) f o)
 
-second_some : (b : Base) (n : ℕ) (ts : Pieces) (x : ℕ × Pieces) → after asterisk ts ≡ Some x → x.0 ≡ line_of ts → IsSecond b (suc n) ts
+second_some : (b : Base) (n : ℕ) (ts : Terminals) (x : ℕ × Terminals) → after asterisk ts ≡ Some x → x.0 ≡ line_of ts → IsSecond b (suc n) ts
 unfolding second_at
 second_some b n ts x e q f o = rw e q
 
-after_line_step : (f : Fixed) (t : Piece) (ts : Pieces) (x : ℕ × Pieces) (b : Bool) → is_fixed f t.what ≡ b → cond b (some_of {A = ℕ × Pieces} (t.line, ts)) None ≡ Some x → (x.0 ≡ t.line) × (x.1 ≡ ts)
-after_line_step f t ts x true e g = let z = some_is (t.line, ts) x g in (sym (ap (λ (p : ℕ × Pieces). p.0) z), sym (ap (λ (p : ℕ × Pieces). p.1) z))
+after_line_step : (f : Fixed) (t : Terminal) (ts : Terminals) (x : ℕ × Terminals) (b : Bool) → is_fixed f t.what ≡ b → cond b (some_of {A = ℕ × Terminals} (t.line, ts)) None ≡ Some x → (x.0 ≡ t.line) × (x.1 ≡ ts)
+after_line_step f t ts x true e g = let z = some_is (t.line, ts) x g in (sym (ap (λ (p : ℕ × Terminals). p.0) z), sym (ap (λ (p : ℕ × Terminals). p.1) z))
 after_line_step f t ts x false e g = absurd cc
 
-pub after_line : (f : Fixed) (ts : Pieces) (x : ℕ × Pieces) → after f ts ≡ Some x → (x.0 ≡ line_of ts) × (length ts ≡ suc (length x.1))
+pub after_line : (f : Fixed) (ts : Terminals) (x : ℕ × Terminals) → after f ts ≡ Some x → (x.0 ≡ line_of ts) × (length ts ≡ suc (length x.1))
 unfolding after
 after_line f [] x e = absurd cc
-after_line f (t ∷ ts) x e = let a = after_line_step f t ts x (is_fixed f t.what) refl e in (a.0, ap (λ (y : Pieces). suc (length y)) (sym a.1))
+after_line f (t ∷ ts) x e = let a = after_line_step f t ts x (is_fixed f t.what) refl e in (a.0, ap (λ (y : Terminals). suc (length y)) (sym a.1))
 
 -- what was read behind a base
-pub record Pointed (b : Base) (k : ℕ) (ts : Pieces) (p : CType × Pieces) : Type 0 where
+pub record Pointed (b : Base) (k : ℕ) (ts : Terminals) (p : CType × Terminals) : Type 0 where
   pub count : ℕ
   pub shape : type_shape p.0 ≡ shape_of b (count + k) []
-  pub reads : (lines : List ℕ) (ms : Spelling) (rest : Pieces) → Fits lines (line_of ts) → Reads ms p.1 rest → Reads (stars_on lines count ms) ts rest
+  pub reads : (lines : List ℕ) (ms : Spelling) (rest : Terminals) → Fits lines (line_of ts) → Reads ms p.1 rest → Reads (stars_on lines count ms) ts rest
   pub second : IsSecond b count ts
 
-no_stars : (b : Base) (k : ℕ) (t : CType) (ts : Pieces) → type_shape t ≡ shape_of b k [] → after asterisk ts ≡ None → Pointed b k ts (t, ts)
+no_stars : (b : Base) (k : ℕ) (t : CType) (ts : Terminals) → type_shape t ≡ shape_of b k [] → after asterisk ts ≡ None → Pointed b k ts (t, ts)
 no_stars b k t ts e f = record { count = zero; shape = let z : zero + k ≡ k = omega arith in rw z e; reads = λ lines ms rest fits r. r; second = second_none b ts f }
 
-pub pointers_sound : (m : ℕ) (b : Base) (k : ℕ) (t : CType) (ts : Pieces) → length ts ≤ m → type_shape t ≡ shape_of b k [] → Pointed b k ts (pointers_at m t ts)
+pub pointers_sound : (m : ℕ) (b : Base) (k : ℕ) (t : CType) (ts : Terminals) → length ts ≤ m → type_shape t ≡ shape_of b k [] → Pointed b k ts (pointers_at m t ts)
 unfolding pointers_at
-pointers_sound zero b k t [] le e = no_stars b k t [] e (no_pieces asterisk)
+pointers_sound zero b k t [] le e = no_stars b k t [] e (no_terminals asterisk)
 pointers_sound zero b k t (p ∷ ts) le e = absurd (omega arith)
 pointers_sound (suc m) b k t ts le e =
     elim (found_ok (after asterisk ts) (λ x. pointers_at m (ctype.Pointer t) x.1) (t, ts) _ refl) [
@@ -254,23 +254,23 @@ pointers_sound (suc m) b k t ts le e =
     ]
 
 -- what is spelled behind a base
-pub record Starred (b : Base) (lines : List ℕ) (n m : ℕ) (t : CType) (ms : Spelling) (ts rest : Pieces) : Type 0 where
-  pub next : Pieces
+pub record Starred (b : Base) (lines : List ℕ) (n m : ℕ) (t : CType) (ms : Spelling) (ts rest : Terminals) : Type 0 where
+  pub next : Terminals
   pub found : pointers_at m t ts ≡ (pointed t n, next)
   pub reads : Reads ms next rest
   pub fits : 0 < n → Fits lines (line_of ts)
   pub second : IsSecond b n ts
   pub less : length next ≤ length ts
 
-abbrev pub NoStar : Spelling → Pieces → Type 0
-NoStar ms rest = (ts : Pieces) → Reads ms ts rest → after asterisk ts ≡ None
+abbrev pub NoStar : Spelling → Terminals → Type 0
+NoStar ms rest = (ts : Terminals) → Reads ms ts rest → after asterisk ts ≡ None
 
-pointers_stop : (m : ℕ) (t : CType) (ts : Pieces) → after asterisk ts ≡ None → pointers_at m t ts ≡ (t, ts)
+pointers_stop : (m : ℕ) (t : CType) (ts : Terminals) → after asterisk ts ≡ None → pointers_at m t ts ≡ (t, ts)
 unfolding pointers_at
 pointers_stop zero t ts e = refl
 pointers_stop (suc m) t ts e = rw e refl
 
-pub pointers_read : (m n : ℕ) (b : Base) (lines : List ℕ) (t : CType) (ms : Spelling) (ts rest : Pieces) → length ts ≤ m → NoStar ms rest → Reads (stars_on lines n ms) ts rest → Starred b lines n m t ms ts rest
+pub pointers_read : (m n : ℕ) (b : Base) (lines : List ℕ) (t : CType) (ms : Spelling) (ts rest : Terminals) → length ts ≤ m → NoStar ms rest → Reads (stars_on lines n ms) ts rest → Starred b lines n m t ms ts rest
 unfolding pointers_at
 pointers_read m zero b lines t ms ts rest le none h =
     let e = none ts h in

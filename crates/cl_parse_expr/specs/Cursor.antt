@@ -1,4 +1,4 @@
--- The first pieces, as private contracts see them.
+-- The first terminals, as private contracts see them.
 use Rattle.std.specs.Prelude.{◌≡◌, ℕ, zero, suc, List, [], ◌∷◌, ◌++◌, length, Option, Some, None, Bool, true, false, nat_lt, Result, Ok, Err, if◌then◌else◌}
 use denote.Enum.Bare.{sameb}
 use Rattle.cl_tree.specs.contracts.token.Mark.{the_type as mark_type}
@@ -13,7 +13,7 @@ use Rattle.cl_tree.specs.declared.grammar.Keyword.{Keyword}
 use Rattle.cl_tree.specs.declared.grammar.Keyword.TheVariants as key
 use Rattle.cl_tree.specs.declared.grammar.Sign.{Sign}
 use Rattle.cl_tree.specs.declared.grammar.Sign.TheVariants as sign
-use Rattle.cl_tree.specs.declared.grammar.Piece.{Piece}
+use Rattle.cl_tree.specs.declared.grammar.Terminal.{Terminal}
 use Rattle.cl_tree.specs.Words.{Word}
 use Rattle.cl_tree.specs.Spelling.{binds}
 use Rattle.cl_parse_expr.specs.declared.stop.Stop.{Stop}
@@ -47,8 +47,8 @@ abbrev pub found : {A B : Type 0} → Option A → (A → B) → B → B
 found None f b = b
 found (Some x) f b = f x
 
-abbrev pub Pieces : Type 0
-Pieces = List Piece
+abbrev pub Terminals : Type 0
+Terminals = List Terminal
 
 unfoldable pub same_mark : Mark → Mark → Bool
 same_mark a b = sameb mark_type a b
@@ -65,19 +65,19 @@ is_fixed (fixed.Mark m) (sign.Mark n) = same_mark n m
 is_fixed (fixed.Key k) (sign.Key l) = same_key l k
 is_fixed _ _ = false
 
-unfoldable pub after : Fixed → Pieces → Option (ℕ × Pieces)
+unfoldable pub after : Fixed → Terminals → Option (ℕ × Terminals)
 after f [] = None
 after f (t ∷ ts) = if is_fixed f t.what then Some (t.line, ts) else None
 
-abbrev pub line_of : Pieces → ℕ
+abbrev pub line_of : Terminals → ℕ
 line_of [] = 0
 line_of (t ∷ ts) = t.line
 
-abbrev pub name_step : ℕ → Sign → Pieces → Option (Word × ℕ × Pieces)
+abbrev pub name_step : ℕ → Sign → Terminals → Option (Word × ℕ × Terminals)
 name_step line (sign.Name name) ts = Some (name, line, ts)
 name_step line _ ts = None
 
-unfoldable pub name_at : Pieces → Option (Word × ℕ × Pieces)
+unfoldable pub name_at : Terminals → Option (Word × ℕ × Terminals)
 name_at [] = None
 name_at (t ∷ ts) = name_step t.line t.what ts
 
@@ -128,6 +128,6 @@ pull link.Index = 14
 pull link.Member = 14
 pull link.Arrow = 14
 
-unfoldable pub link_at : ℕ → Pieces → Option (Link × ℕ × Pieces)
+unfoldable pub link_at : ℕ → Terminals → Option (Link × ℕ × Terminals)
 link_at k [] = None
 link_at k (t ∷ ts) = if nat_lt (pull (link_of t.what)) k then None else Some (link_of t.what, t.line, ts)

@@ -1,24 +1,24 @@
-//! The first pieces.
+//! The first terminals.
 
 ghost use Rattle.std.specs.Prelude.{◌≡◌};
-ghost use Rattle.cl_tree.specs.Spelling.{binds};
 ghost use Rattle.cl_parse_expr.specs.Cursor.{Gives, Finds, is_fixed, after, line_of, name_at, start_of, link_of, pull, link_at};
 
 use crate::stop::Stop;
 use cl_base::name::Name;
-use cl_tree::grammar::{Keyword, Piece, Sign};
+use cl_terminals::operators::binds;
+use cl_tree::grammar::{Keyword, Sign, Terminal};
 use cl_tree::kinds::{BinOp, UnOp};
 use cl_tree::token::Mark;
 
-/// A piece that has one spelling.
-#[derive(Clone, Copy, Debug, PartialEq, Eq)]
+/// A terminal that has one spelling.
+#[derive(Clone, Copy, PartialEq, Eq)]
 pub enum Fixed {
     Mark(Mark),
     Key(Keyword),
 }
 
 #[tactic(auto, unfolding(crate::specs::Cursor::same_mark, crate::specs::Cursor::same_key))]
-pub fn is_fixed(fixed: Fixed, what: &Sign) -> bool
+fn is_fixed(fixed: Fixed, what: &Sign) -> bool
     ensures { result ≡ is_fixed fixed what.now }
 {
     match (fixed, what) {
@@ -28,12 +28,12 @@ pub fn is_fixed(fixed: Fixed, what: &Sign) -> bool
     }
 }
 
-/// What follows a piece, with its line.
+/// What follows a terminal, with its line.
 #[tactic(auto, unfolding(crate::specs::Cursor::after))]
-pub fn after(fixed: Fixed, pieces: &[Piece]) -> Option<(u32, &[Piece])>
-    ensures { Finds (λ x. (x.0, x.1.now)) result (after fixed pieces.now) }
+pub fn after(fixed: Fixed, terminals: &[Terminal]) -> Option<(u32, &[Terminal])>
+    ensures { Finds (λ x. (x.0, x.1.now)) result (after fixed terminals.now) }
 {
-    match pieces {
+    match terminals {
         [first, rest @ ..] => {
             if is_fixed(fixed, &first.what) {
                 Some((first.line, rest))
@@ -46,20 +46,20 @@ pub fn after(fixed: Fixed, pieces: &[Piece]) -> Option<(u32, &[Piece])>
 }
 
 /// The same, where nothing else may stand.
-pub fn wanted(fixed: Fixed, pieces: &[Piece]) -> Result<(u32, &[Piece]), Stop>
-    ensures { Gives (λ x. (x.0, x.1.now)) result (after fixed pieces.now) }
+pub fn wanted(fixed: Fixed, terminals: &[Terminal]) -> Result<(u32, &[Terminal]), Stop>
+    ensures { Gives (λ x. (x.0, x.1.now)) result (after fixed terminals.now) }
 {
-    match after(fixed, pieces) {
+    match after(fixed, terminals) {
         Some(found) => Ok(found),
         None => Err(Stop::Unread),
     }
 }
 
-/// The line of the first piece; 0 where there is none.
-pub fn line_of(pieces: &[Piece]) -> u32
-    ensures { result ≡ line_of pieces.now }
+/// The line of the first terminal; 0 where there is none.
+pub fn line_of(terminals: &[Terminal]) -> u32
+    ensures { result ≡ line_of terminals.now }
 {
-    match pieces {
+    match terminals {
         [first, ..] => first.line,
         [] => 0,
     }
@@ -67,10 +67,10 @@ pub fn line_of(pieces: &[Piece]) -> u32
 
 /// A name, its line, and what follows.
 #[tactic(auto, unfolding(crate::specs::Cursor::name_at))]
-pub fn name_at(pieces: &[Piece]) -> Option<(&Name, u32, &[Piece])>
-    ensures { Finds (λ x. (x.0.now, x.1, x.2.now)) result (name_at pieces.now) }
+pub fn name_at(terminals: &[Terminal]) -> Option<(&Name, u32, &[Terminal])>
+    ensures { Finds (λ x. (x.0.now, x.1, x.2.now)) result (name_at terminals.now) }
 {
-    match pieces {
+    match terminals {
         [first, rest @ ..] => match &first.what {
             Sign::Name(name) => Some((name, first.line, rest)),
             _ => None,
@@ -80,17 +80,17 @@ pub fn name_at(pieces: &[Piece]) -> Option<(&Name, u32, &[Piece])>
 }
 
 /// The same, where nothing else may stand.
-pub fn wanted_name(pieces: &[Piece]) -> Result<(&Name, u32, &[Piece]), Stop>
-    ensures { Gives (λ x. (x.0.now, x.1, x.2.now)) result (name_at pieces.now) }
+pub fn wanted_name(terminals: &[Terminal]) -> Result<(&Name, u32, &[Terminal]), Stop>
+    ensures { Gives (λ x. (x.0.now, x.1, x.2.now)) result (name_at terminals.now) }
 {
-    match name_at(pieces) {
+    match name_at(terminals) {
         Some(found) => Ok(found),
         None => Err(Stop::Unread),
     }
 }
 
 /// What a punctuator begins.
-#[derive(Clone, Copy, Debug, PartialEq, Eq)]
+#[derive(Clone, Copy, PartialEq, Eq)]
 pub enum Start {
     Nothing,
     Group,
@@ -112,8 +112,8 @@ pub fn start_of(mark: Mark) -> Start
     }
 }
 
-/// What a piece does to the expression before it.
-#[derive(Clone, Copy, Debug, PartialEq, Eq)]
+/// What a terminal does to the expression before it.
+#[derive(Clone, Copy, PartialEq, Eq)]
 pub enum Link {
     Nothing,
     Choice,
@@ -123,7 +123,7 @@ pub enum Link {
     Arrow,
 }
 
-pub fn link_of(what: &Sign) -> Link
+fn link_of(what: &Sign) -> Link
     ensures { result ≡ link_of what.now }
 {
     match what {
@@ -153,26 +153,8 @@ pub fn link_of(what: &Sign) -> Link
     }
 }
 
-/// How tightly a binary operator binds, from 2 to 11 (C11 6.5.5 to 6.5.14).
-pub fn binds(op: BinOp) -> u32
-    ensures { result ≡ binds op }
-{
-    match op {
-        BinOp::Or => 2,
-        BinOp::And => 3,
-        BinOp::BitOr => 4,
-        BinOp::Xor => 5,
-        BinOp::BitAnd => 6,
-        BinOp::Equal | BinOp::Unequal => 7,
-        BinOp::Less | BinOp::Greater | BinOp::AtMost | BinOp::AtLeast => 8,
-        BinOp::Left | BinOp::Right => 9,
-        BinOp::Add | BinOp::Sub => 10,
-        BinOp::Mul | BinOp::Div | BinOp::Rem => 11,
-    }
-}
-
-/// How tightly a piece binds the expression before it.
-pub fn pull(link: Link) -> u32
+/// How tightly a terminal binds the expression before it.
+fn pull(link: Link) -> u32
     ensures { result ≡ pull link }
 {
     match link {
@@ -183,12 +165,12 @@ pub fn pull(link: Link) -> u32
     }
 }
 
-/// What the first piece does to the expression before it, if it binds at this level.
+/// What the first terminal does to the expression before it, if it binds at this level.
 #[tactic(auto, unfolding(crate::specs::Cursor::link_at))]
-pub fn link_at(level: u32, pieces: &[Piece]) -> Option<(Link, u32, &[Piece])>
-    ensures { Finds (λ x. (x.0, x.1, x.2.now)) result (link_at level pieces.now) }
+pub fn link_at(level: u32, terminals: &[Terminal]) -> Option<(Link, u32, &[Terminal])>
+    ensures { Finds (λ x. (x.0, x.1, x.2.now)) result (link_at level terminals.now) }
 {
-    match pieces {
+    match terminals {
         [first, rest @ ..] => {
             let link = link_of(&first.what);
             if pull(link) < level {

@@ -4,12 +4,13 @@ ghost use Rattle.std.specs.Prelude.{◌≡◌, ◌∷◌, [], length, suc, IfOk}
 ghost use Rattle.cl_parse_expr.specs.Cursor.{Gives};
 ghost use Rattle.cl_parse_expr.specs.Reading.{expr_at, expr_of, head_of, head_step, start_step, paren_at, cast_at, args_at, more_at, grow, loop_of, tree};
 
-use crate::cursor::{Fixed, Link, Start, after, binds, link_at, start_of, wanted, wanted_name};
+use crate::cursor::{Fixed, Link, Start, after, link_at, start_of, wanted, wanted_name};
 use crate::stop::Stop;
 use crate::types::{base_at, pointers_at, second_at, type_of};
 use cl_base::name::{Name, NoMemory};
+use cl_terminals::operators::binds;
 use cl_tree::bytes::Bytes;
-use cl_tree::grammar::{Base, Piece, Sign};
+use cl_tree::grammar::{Base, Sign, Terminal};
 use cl_tree::token::Mark;
 use cl_tree::tree::{CType, Expr, Node};
 use sqlite_items::{Boxed, Items};
@@ -78,31 +79,35 @@ fn arrow(
     boxed(alloc, line, second, Node::Arrow(left, name))
 }
 
-/// An expression that binds as tightly as `level` asks, and the pieces after it. With `room` above the
-/// number of pieces each expression is found.
+/// An expression that binds as tightly as `level` asks, and the terminals after it. With `room` above the
+/// number of terminals each expression is found.
 #[cycle(expr)]
 #[tactic(auto, unfolding(crate::specs::Reading::expr_at))]
 pub fn expr_at(
     alloc: Global,
     room: usize,
     level: u32,
-    pieces: &[Piece],
-) -> Result<(Boxed<Expr>, &[Piece]), Stop>
-    ensures { Gives (λ x. (x.0, x.1.now)) result (expr_at room level pieces.now) }
+    terminals: &[Terminal],
+) -> Result<(Boxed<Expr>, &[Terminal]), Stop>
+    ensures { Gives (λ x. (x.0, x.1.now)) result (expr_at room level terminals.now) }
 {
     if room == 0 {
         return Err(Stop::Unread);
     }
-    let (first, rest) = head_at(alloc, room - 1, pieces)?;
+    let (first, rest) = head_at(alloc, room - 1, terminals)?;
     climb(alloc, room - 1, level, first, rest)
 }
 
 #[cycle(expr)]
 #[tactic(auto, unfolding(crate::specs::Reading::head_of))]
-fn head_at(alloc: Global, room: usize, pieces: &[Piece]) -> Result<(Boxed<Expr>, &[Piece]), Stop>
-    ensures { Gives (λ x. (x.0, x.1.now)) result (head_of (expr_at room) pieces.now) }
+fn head_at(
+    alloc: Global,
+    room: usize,
+    terminals: &[Terminal],
+) -> Result<(Boxed<Expr>, &[Terminal]), Stop>
+    ensures { Gives (λ x. (x.0, x.1.now)) result (head_of (expr_at room) terminals.now) }
 {
-    let [first, rest @ ..] = pieces else {
+    let [first, rest @ ..] = terminals else {
         return Err(Stop::Unread)
     };
     let line = first.line;
@@ -134,12 +139,12 @@ fn word_at<'a>(
     room: usize,
     line: u32,
     name: &Name,
-    pieces: &'a [Piece],
-) -> Result<(Boxed<Expr>, &'a [Piece]), Stop>
-    ensures { Gives (λ x. (x.0, x.1.now)) result (head_step (expr_at room) line (Sign.Name name.now) pieces.now) }
+    terminals: &'a [Terminal],
+) -> Result<(Boxed<Expr>, &'a [Terminal]), Stop>
+    ensures { Gives (λ x. (x.0, x.1.now)) result (head_step (expr_at room) line (Sign.Name name.now) terminals.now) }
 {
-    match after(Fixed::Mark(Mark::OpenParen), pieces) {
-        None => Ok((variable(alloc, line, name)?, pieces)),
+    match after(Fixed::Mark(Mark::OpenParen), terminals) {
+        None => Ok((variable(alloc, line, name)?, terminals)),
         Some((_, rest)) => {
             let (arguments, rest) = args_at(alloc, room, rest)?;
             Ok((call(alloc, line, name, arguments)?, rest))
@@ -154,18 +159,18 @@ fn start_at(
     room: usize,
     line: u32,
     start: Start,
-    pieces: &[Piece],
-) -> Result<(Boxed<Expr>, &[Piece]), Stop>
-    ensures { Gives (λ x. (x.0, x.1.now)) result (start_step (expr_at room) line start pieces.now) }
+    terminals: &[Terminal],
+) -> Result<(Boxed<Expr>, &[Terminal]), Stop>
+    ensures { Gives (λ x. (x.0, x.1.now)) result (start_step (expr_at room) line start terminals.now) }
 {
     match start {
         Start::Nothing => Err(Stop::Unread),
-        Start::Group => match base_at(alloc, pieces)? {
+        Start::Group => match base_at(alloc, terminals)? {
             Some((base, floating, rest)) => cast_at(alloc, room, line, base, floating, rest),
-            None => paren_at(alloc, room, line, pieces),
+            None => paren_at(alloc, room, line, terminals),
         },
         Start::Prefix(op) => {
-            let (inner, rest) = expr_at(alloc, room, 12, pieces)?;
+            let (inner, rest) = expr_at(alloc, room, 12, terminals)?;
             Ok((boxed(alloc, line, line, Node::Unary(op, inner))?, rest))
         }
     }
@@ -177,11 +182,11 @@ fn paren_at(
     alloc: Global,
     room: usize,
     line: u32,
-    pieces: &[Piece],
-) -> Result<(Boxed<Expr>, &[Piece]), Stop>
-    ensures { Gives (λ x. (x.0, x.1.now)) result (paren_at (expr_at room) line pieces.now) }
+    terminals: &[Terminal],
+) -> Result<(Boxed<Expr>, &[Terminal]), Stop>
+    ensures { Gives (λ x. (x.0, x.1.now)) result (paren_at (expr_at room) line terminals.now) }
 {
-    let (inner, rest) = expr_at(alloc, room, 1, pieces)?;
+    let (inner, rest) = expr_at(alloc, room, 1, terminals)?;
     let (_, rest) = wanted(Fixed::Mark(Mark::CloseParen), rest)?;
     Ok((boxed(alloc, line, line, Node::Paren(inner))?, rest))
 }
@@ -194,13 +199,13 @@ fn cast_at(
     line: u32,
     base: Base,
     floating: u32,
-    pieces: &[Piece],
-) -> Result<(Boxed<Expr>, &[Piece]), Stop>
-    ensures { Gives (λ x. (x.0, x.1.now)) result (cast_at (expr_at room) line base floating pieces.now) }
+    terminals: &[Terminal],
+) -> Result<(Boxed<Expr>, &[Terminal]), Stop>
+    ensures { Gives (λ x. (x.0, x.1.now)) result (cast_at (expr_at room) line base floating terminals.now) }
 {
-    let second = second_at(&base, floating, line, pieces);
+    let second = second_at(&base, floating, line, terminals);
     let plain = type_of(alloc, &base)?;
-    let (ctype, rest) = pointers_at(alloc, plain, pieces)?;
+    let (ctype, rest) = pointers_at(alloc, plain, terminals)?;
     let (_, rest) = wanted(Fixed::Mark(Mark::CloseParen), rest)?;
     let (inner, rest) = expr_at(alloc, room, 12, rest)?;
     Ok((cast(alloc, line, second, ctype, inner)?, rest))
@@ -208,13 +213,17 @@ fn cast_at(
 
 #[cycle(expr)]
 #[tactic(auto, unfolding(crate::specs::Reading::args_at))]
-fn args_at(alloc: Global, room: usize, pieces: &[Piece]) -> Result<(Items<Expr>, &[Piece]), Stop>
-    ensures { Gives (λ x. (x.0, x.1.now)) result (args_at (expr_at room) pieces.now) }
+fn args_at(
+    alloc: Global,
+    room: usize,
+    terminals: &[Terminal],
+) -> Result<(Items<Expr>, &[Terminal]), Stop>
+    ensures { Gives (λ x. (x.0, x.1.now)) result (args_at (expr_at room) terminals.now) }
 {
-    match after(Fixed::Mark(Mark::CloseParen), pieces) {
+    match after(Fixed::Mark(Mark::CloseParen), terminals) {
         Some((_, rest)) => Ok((Items::new(alloc), rest)),
         None => {
-            let (first, rest) = expr_at(alloc, room, 1, pieces)?;
+            let (first, rest) = expr_at(alloc, room, 1, terminals)?;
             let mut arguments = Items::new(alloc);
             arguments.push(first.into_inner())?;
             more_at(alloc, room, arguments, rest)
@@ -228,23 +237,23 @@ fn more_at(
     alloc: Global,
     room: usize,
     arguments: Items<Expr>,
-    start: &[Piece],
-) -> Result<(Items<Expr>, &[Piece]), Stop>
+    start: &[Terminal],
+) -> Result<(Items<Expr>, &[Terminal]), Stop>
     ensures { Gives (λ x. (x.0, x.1.now)) result (more_at (expr_at room) (length start.now) arguments start.now) }
 {
     let mut done = arguments;
-    let mut pieces = start;
+    let mut terminals = start;
     let mut turns = start.len();
     'commas: while turns != 0 {
-        match after(Fixed::Mark(Mark::Comma), pieces) {
+        match after(Fixed::Mark(Mark::Comma), terminals) {
             None => {
-                let (_, rest) = wanted(Fixed::Mark(Mark::CloseParen), pieces)?;
+                let (_, rest) = wanted(Fixed::Mark(Mark::CloseParen), terminals)?;
                 return Ok((done, rest));
             }
             Some((_, rest)) => {
                 let (next, rest) = expr_at(alloc, room, 1, rest)?;
                 done.push(next.into_inner())?;
-                pieces = rest;
+                terminals = rest;
             }
         }
         turns -= 1;
@@ -261,22 +270,22 @@ fn grow(
     left: Boxed<Expr>,
     line: u32,
     link: Link,
-    pieces: &[Piece],
-) -> Result<(Boxed<Expr>, &[Piece]), Stop>
-    ensures { Gives (λ x. (x.0, x.1.now)) result (grow (expr_at room) left line link pieces.now) }
+    terminals: &[Terminal],
+) -> Result<(Boxed<Expr>, &[Terminal]), Stop>
+    ensures { Gives (λ x. (x.0, x.1.now)) result (grow (expr_at room) left line link terminals.now) }
 {
     let first = left.get().line;
     match link {
         Link::Nothing => Err(Stop::Unread),
         Link::Binary(op) => {
-            let (right, rest) = expr_at(alloc, room, binds(op) + 1, pieces)?;
+            let (right, rest) = expr_at(alloc, room, binds(op) + 1, terminals)?;
             Ok((
                 boxed(alloc, first, line, Node::Binary(op, left, right))?,
                 rest,
             ))
         }
         Link::Choice => {
-            let (yes, rest) = expr_at(alloc, room, 1, pieces)?;
+            let (yes, rest) = expr_at(alloc, room, 1, terminals)?;
             let (_, rest) = wanted(Fixed::Mark(Mark::Colon), rest)?;
             let (no, rest) = expr_at(alloc, room, 1, rest)?;
             Ok((
@@ -285,16 +294,16 @@ fn grow(
             ))
         }
         Link::Index => {
-            let (index, rest) = expr_at(alloc, room, 1, pieces)?;
+            let (index, rest) = expr_at(alloc, room, 1, terminals)?;
             let (_, rest) = wanted(Fixed::Mark(Mark::CloseBracket), rest)?;
             Ok((boxed(alloc, first, line, Node::Index(left, index))?, rest))
         }
         Link::Member => {
-            let (name, _, rest) = wanted_name(pieces)?;
+            let (name, _, rest) = wanted_name(terminals)?;
             Ok((member(alloc, left, name)?, rest))
         }
         Link::Arrow => {
-            let (name, _, rest) = wanted_name(pieces)?;
+            let (name, _, rest) = wanted_name(terminals)?;
             Ok((arrow(alloc, left, line, name)?, rest))
         }
     }
@@ -307,21 +316,21 @@ fn climb(
     room: usize,
     level: u32,
     first: Boxed<Expr>,
-    start: &[Piece],
-) -> Result<(Boxed<Expr>, &[Piece]), Stop>
+    start: &[Terminal],
+) -> Result<(Boxed<Expr>, &[Terminal]), Stop>
     ensures { Gives (λ x. (x.0, x.1.now)) result (loop_of (expr_at room) (suc (length start.now)) level first start.now) }
 {
     let mut left = first;
-    let mut pieces = start;
+    let mut terminals = start;
     let mut turns = start.len();
-    'links: while let Some((link, line, rest)) = link_at(level, pieces) {
+    'links: while let Some((link, line, rest)) = link_at(level, terminals) {
         let (grown, rest) = grow(alloc, room, left, line, link, rest)?;
         left = grown;
-        pieces = rest;
+        terminals = rest;
         if turns == 0 {
             return Err(Stop::Unread);
         }
         turns -= 1;
     }
-    Ok((left, pieces))
+    Ok((left, terminals))
 }

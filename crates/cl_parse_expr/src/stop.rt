@@ -9,7 +9,7 @@ use std::alloc::AllocError;
 pub enum Stop {
     /// Memory ran out.
     Memory,
-    /// The pieces don't read so.
+    /// The terminals don't read so.
     Unread,
 }
 

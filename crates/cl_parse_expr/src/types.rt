@@ -7,7 +7,7 @@ ghost use Rattle.cl_parse_expr.specs.Types.{base_at, base_step, key_base, type_o
 use crate::cursor::{Fixed, after, name_at};
 use crate::stop::Stop;
 use cl_base::name::NoMemory;
-use cl_tree::grammar::{Base, Keyword, Piece, Sign};
+use cl_tree::grammar::{Base, Keyword, Sign, Terminal};
 use cl_tree::token::Mark;
 use cl_tree::tree::CType;
 use sqlite_items::Boxed;
@@ -16,22 +16,25 @@ use std::alloc::Global;
 fn tag_at(
     alloc: Global,
     line: u32,
-    pieces: &[Piece],
-) -> Result<Option<(Base, u32, &[Piece])>, NoMemory>
-    ensures { IfOk result (λ o. Finds (λ x. (x.0, x.1, x.2.now)) o (key_base line Keyword.Struct pieces.now)) }
+    terminals: &[Terminal],
+) -> Result<Option<(Base, u32, &[Terminal])>, NoMemory>
+    ensures { IfOk result (λ o. Finds (λ x. (x.0, x.1, x.2.now)) o (key_base line Keyword.Struct terminals.now)) }
 {
-    match name_at(pieces) {
+    match name_at(terminals) {
         Some((name, _, rest)) => Ok(Some((Base::Tag(name.copy(alloc)?), line, rest))),
         None => Ok(None),
     }
 }
 
-/// The base of a type with the line of its first piece, and what follows.
+/// The base of a type with the line of its first terminal, and what follows.
 #[tactic(auto, unfolding(crate::specs::Types::base_at))]
-pub fn base_at(alloc: Global, pieces: &[Piece]) -> Result<Option<(Base, u32, &[Piece])>, NoMemory>
-    ensures { IfOk result (λ o. Finds (λ x. (x.0, x.1, x.2.now)) o (base_at pieces.now)) }
+pub fn base_at(
+    alloc: Global,
+    terminals: &[Terminal],
+) -> Result<Option<(Base, u32, &[Terminal])>, NoMemory>
+    ensures { IfOk result (λ o. Finds (λ x. (x.0, x.1, x.2.now)) o (base_at terminals.now)) }
 {
-    let [first, rest @ ..] = pieces else {
+    let [first, rest @ ..] = terminals else {
         return Ok(None)
     };
     match &first.what {
@@ -61,22 +64,22 @@ pub fn type_of(alloc: Global, base: &Base) -> Result<Boxed<CType>, NoMemory>
 pub fn pointers_at(
     alloc: Global,
     plain: Boxed<CType>,
-    start: &[Piece],
-) -> Result<(Boxed<CType>, &[Piece]), NoMemory>
+    start: &[Terminal],
+) -> Result<(Boxed<CType>, &[Terminal]), NoMemory>
     ensures { IfOk result (λ x. (x.0, x.1.now) ≡ pointers_at (length start.now) plain start.now) }
 {
     let mut ctype = plain;
-    let mut pieces = start;
+    let mut terminals = start;
     let mut turns = start.len();
     'stars: while turns != 0 {
-        let Some((_, rest)) = after(Fixed::Mark(Mark::Star), pieces) else {
-            return Ok((ctype, pieces));
+        let Some((_, rest)) = after(Fixed::Mark(Mark::Star), terminals) else {
+            return Ok((ctype, terminals));
         };
         ctype = Boxed::new(alloc, CType::Pointer(ctype))?;
-        pieces = rest;
+        terminals = rest;
         turns -= 1;
     }
-    Ok((ctype, pieces))
+    Ok((ctype, terminals))
 }
 
 fn base_second(base: &Base, floating: u32, other: u32) -> u32
@@ -88,13 +91,13 @@ fn base_second(base: &Base, floating: u32, other: u32) -> u32
     }
 }
 
-/// The second line of a node whose type goes on with these pieces: that of its first `*`, else that of its
+/// The second line of a node whose type goes on with these terminals: that of its first `*`, else that of its
 /// floating base, else `other`.
 #[tactic(auto, unfolding(crate::specs::Types::second_at))]
-pub fn second_at(base: &Base, floating: u32, other: u32, pieces: &[Piece]) -> u32
-    ensures { result ≡ second_at base.now floating other pieces.now }
+pub fn second_at(base: &Base, floating: u32, other: u32, terminals: &[Terminal]) -> u32
+    ensures { result ≡ second_at base.now floating other terminals.now }
 {
-    match after(Fixed::Mark(Mark::Star), pieces) {
+    match after(Fixed::Mark(Mark::Star), terminals) {
         Some((line, _)) => line,
         None => base_second(base, floating, other),
     }

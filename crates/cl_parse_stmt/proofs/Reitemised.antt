@@ -8,7 +8,7 @@ use Rattle.cl_tree.specs.declared.grammar.Keyword.TheVariants as key
 use Rattle.cl_tree.specs.declared.grammar.Base.{Base}
 use Rattle.cl_tree.specs.declared.grammar.Base.TheVariants as base
 use Rattle.cl_tree.specs.declared.grammar.Sign.TheVariants as sign
-use Rattle.cl_tree.specs.declared.grammar.Piece.{Piece}
+use Rattle.cl_tree.specs.declared.grammar.Terminal.{Terminal}
 use Rattle.cl_tree.specs.declared.tree.CType.{CType}
 use Rattle.cl_tree.specs.declared.tree.Init.{Init}
 use Rattle.cl_tree.specs.declared.tree.Declarator.{Declarator}
@@ -22,29 +22,22 @@ use Rattle.cl_tree.specs.Statements.{initialiser, init_shape, declarator, base_l
 use Rattle.cl_tree.specs.Items.{member, is_member, all_members, parameter, all_parameters, parameters, body_then, is_body, named_function, function, item_spelling, is_item}
 use Rattle.cl_parse_expr.specs.declared.cursor.Fixed.{Fixed}
 use Rattle.cl_parse_expr.specs.declared.cursor.Fixed.TheVariants as fixed
-use Rattle.cl_parse_expr.specs.Cursor.{Pieces, after, same_mark, same_key, is_fixed, line_of}
+use Rattle.cl_parse_expr.specs.Cursor.{Terminals, after, same_mark, same_key, is_fixed, line_of}
 use Rattle.cl_parse_expr.specs.Types.{base_at, type_of, pointers_at, second_at}
 use Rattle.cl_parse_expr.specs.Reading.{opening, close, comma}
-use Rattle.cl_parse_expr.proofs.Marks.{some_of, some_is, and_elim, reads_split, reads_length, after_reads, is_fixed_true, not_other, name_reads}
-use Rattle.cl_parse_expr.proofs.TypeNames.{base_reads, pointers_read, asterisk, second_back, pointed, after_line}
-use Rattle.cl_parse_expr.proofs.Complete.{some_pair}
+use Rattle.cl_parse_expr.proofs.Marks.{some_of, some_is, and_elim, reads_split, reads_length, after_reads, is_fixed_true, not_other, name_reads, fits_split}
+use Rattle.cl_parse_expr.proofs.TypeNames.{no_dims, base_reads, pointers_read, asterisk, second_back, pointed, after_line}
+use Rattle.cl_parse_expr.proofs.Complete.{close_comma, index_closed, some_pair}
 use Rattle.cl_parse_stmt.specs.Declaring.{InitReader, open_brace, close_brace, semicolon, declared_as, arrayed}
 use Rattle.cl_parse_stmt.specs.Stating.{StmtReader}
 use Rattle.cl_parse_stmt.specs.Itemising.{member_at, members_at, struct_from, parameter_at, more_parameters, parameters_at, body_at, function_from, variables_from, called_at, plain_from, plain_at, struct_at, unmarked_at, item_step, item_of}
-use Rattle.cl_parse_stmt.proofs.Declared.{InitComplete, Closes, stop_closes, comma_stops, semicolon_stops, close_stops, declarator_opened, declarator_read, made_type, Follows, names_read, other_names, static_key, base_append, fits_split}
-use Rattle.cl_parse_stmt.proofs.Restated.{ListedComplete, block_read}
+use Rattle.cl_parse_stmt.proofs.Declared.{InitComplete, Closes, stop_closes, comma_stops, semicolon_stops, close_stops, declarator_opened, declarator_read, made_type, Follows, names_read, other_names, static_key, base_append}
+use Rattle.cl_parse_stmt.proofs.Restated.{ListedComplete, semicolon_follows, block_read}
 use Rattle.cl_parse_stmt.proofs.Itemised.{Itemised, all_first_lines, other_parameters}
 
--- ---- first pieces
+-- ---- first terminals
 
-semicolon_comma : is_fixed comma (sign.Mark mark.Semicolon) ≡ false
-unfolding same_mark
-semicolon_comma = refl
-
-semicolon_follows : (ms : Spelling) (rest : Pieces) → Follows (put_mark mark.Semicolon ms) rest
-semicolon_follows ms rest = record { closes = λ ts h. stop_closes (sign.Mark mark.Semicolon) [] ms ts rest semicolon_stops h; comma = λ ts h. not_other (sign.Mark mark.Semicolon) comma [] ms ts rest semicolon_comma h }
-
-base_no_mark : (m : Mark) (b : Base) (lines : List ℕ) (ms : Spelling) (ts rest : Pieces) → Reads (base_on lines b ms) ts rest → after (fixed.Mark m) ts ≡ None
+base_no_mark : (m : Mark) (b : Base) (lines : List ℕ) (ms : Spelling) (ts rest : Terminals) → Reads (base_on lines b ms) ts rest → after (fixed.Mark m) ts ≡ None
 base_no_mark m base.Void lines ms ts rest h = not_other (sign.Key key.Void) (fixed.Mark m) lines ms ts rest refl h
 base_no_mark m (base.Kind k) lines ms ts rest h = not_other (sign.Kind k) (fixed.Mark m) lines ms ts rest refl h
 base_no_mark m base.Real lines ms ts rest h = not_other sign.Real (fixed.Mark m) lines ms ts rest refl h
@@ -64,7 +57,7 @@ void_struct : is_fixed struct_key (sign.Key key.Void) ≡ false
 unfolding same_key
 void_struct = refl
 
-base_no_void : (b : Base) (lines : List ℕ) (ms : Spelling) (ts rest : Pieces) → not (is_void b) ≡ true → Reads (base_on lines b ms) ts rest → after void_key ts ≡ None
+base_no_void : (b : Base) (lines : List ℕ) (ms : Spelling) (ts rest : Terminals) → not (is_void b) ≡ true → Reads (base_on lines b ms) ts rest → after void_key ts ≡ None
 base_no_void base.Void lines ms ts rest v h = absurd cc
 base_no_void (base.Kind k) lines ms ts rest v h = not_other (sign.Kind k) void_key lines ms ts rest refl h
 base_no_void base.Real lines ms ts rest v h = not_other sign.Real void_key lines ms ts rest refl h
@@ -76,14 +69,14 @@ not_true : (b : Bool) → not b ≡ true → b ≡ false
 not_true true e = absurd cc
 not_true false e = refl
 
-record MemberRead (I : InitReader) (first : ℕ) (d : Declaration) (ms : Spelling) (ts rest : Pieces) : Type 0 where
-  pub next : Pieces
+record MemberRead (I : InitReader) (first : ℕ) (d : Declaration) (ms : Spelling) (ts rest : Terminals) : Type 0 where
+  pub next : Terminals
   pub found : member_at I first ts ≡ Some (d, next)
   pub reads : Reads ms next rest
   pub less : length next < length ts
   pub no_brace : after close_brace ts ≡ None
 
-member_read : (I : InitReader) (n : ℕ) → InitComplete I n → (first : ℕ) (d : Declaration) (ms : Spelling) (ts rest : Pieces) → length ts < n → is_member d ≡ true → Fits (first_lines d.names) first → Reads (member d ++ ms) ts rest → MemberRead I first d ms ts rest
+member_read : (I : InitReader) (n : ℕ) → InitComplete I n → (first : ℕ) (d : Declaration) (ms : Spelling) (ts rest : Terminals) → length ts < n → is_member d ≡ true → Fits (first_lines d.names) first → Reads (member d ++ ms) ts rest → MemberRead I first d ms ts rest
 unfolding member_at
 member_read I n all first d ms ts rest lt p fits h =
     let names : Spelling = commas (map declarator d.names) in
@@ -98,19 +91,19 @@ member_read I n all first d ms ts rest lt p fits h =
     let l3 = c.less in
     record {
       next = c.next;
-      found = rw (b.found, r.found, c.found) (ap (λ (y : Bool). some_of {A = Declaration × Pieces} (declared_as y d.names, c.next)) (sym (not_true d.is_static q.0)));
+      found = rw (b.found, r.found, c.found) (ap (λ (y : Bool). some_of {A = Declaration × Terminals} (declared_as y d.names, c.next)) (sym (not_true d.is_static q.0)));
       reads = c.reads;
       less = omega arith;
       no_brace = base_no_mark mark.CloseBrace (common_base d.names) (base_lines d.names) _ ts rest h1;
     }
 
-record MembersRead (I : InitReader) (first m : ℕ) (done ds : List Declaration) (ms : Spelling) (ts rest : Pieces) : Type 0 where
-  pub next : Pieces
+record MembersRead (I : InitReader) (first m : ℕ) (done ds : List Declaration) (ms : Spelling) (ts rest : Terminals) : Type 0 where
+  pub next : Terminals
   pub found : members_at I first m done ts ≡ Some (done ++ ds, next)
   pub reads : Reads ms next rest
   pub less : length next ≤ length ts
 
-members_read : (I : InitReader) (n : ℕ) → InitComplete I n → (first m : ℕ) (done ds : List Declaration) (ms : Spelling) (ts rest : Pieces) → length ts < n → length ts < m → all_members ds ≡ true → Fits (all_first_lines ds) first → Reads (flat_map member ds ++ put_mark mark.CloseBrace ms) ts rest → MembersRead I first m done ds ms ts rest
+members_read : (I : InitReader) (n : ℕ) → InitComplete I n → (first m : ℕ) (done ds : List Declaration) (ms : Spelling) (ts rest : Terminals) → length ts < n → length ts < m → all_members ds ≡ true → Fits (all_first_lines ds) first → Reads (flat_map member ds ++ put_mark mark.CloseBrace ms) ts rest → MembersRead I first m done ds ms ts rest
 unfolding members_at
 members_read I n all first zero done ds ms ts rest lt le p fits h = absurd (omega arith)
 members_read I n all first (suc m) done [] ms ts rest lt le p fits h =
@@ -134,7 +127,7 @@ members_read I n all first (suc m) done (d ∷ ds) ms ts rest lt le p fits h =
 
 -- ---- fronts of items
 
-unmarked_base : (L : StmtReader) (I : InitReader) (b : Base) (lines : List ℕ) (ms : Spelling) (ts rest : Pieces) → Reads (base_on lines b ms) ts rest → item_of L I ts ≡ unmarked_at L I ts
+unmarked_base : (L : StmtReader) (I : InitReader) (b : Base) (lines : List ℕ) (ms : Spelling) (ts rest : Terminals) → Reads (base_on lines b ms) ts rest → item_of L I ts ≡ unmarked_at L I ts
 unfolding item_of
 unmarked_base L I base.Void lines ms [] rest h = absurd h
 unmarked_base L I (base.Kind k) lines ms [] rest h = absurd h
@@ -145,17 +138,17 @@ unmarked_base L I (base.Kind k) lines ms (t ∷ ts) rest h = rw h.0 refl
 unmarked_base L I base.Real lines ms (t ∷ ts) rest h = rw h.0 refl
 unmarked_base L I (base.Tag n) lines ms (t ∷ ts) rest h = rw h.0 refl
 
-static_item_step : (L : StmtReader) (I : InitReader) (t : Piece) (ts : Pieces) (x : ℕ × Pieces) (b : Bool) → is_fixed static_key t.what ≡ b → cond b (some_of {A = ℕ × Pieces} (t.line, ts)) None ≡ Some x → item_step L I t.line t.what (t ∷ ts) ts ≡ plain_at L I true x.0 x.1
-static_item_step L I t ts x true e g = rw (is_fixed_true static_key t.what e) (ap (λ (y : ℕ × Pieces). plain_at L I true y.0 y.1) (some_is (t.line, ts) x g))
+static_item_step : (L : StmtReader) (I : InitReader) (t : Terminal) (ts : Terminals) (x : ℕ × Terminals) (b : Bool) → is_fixed static_key t.what ≡ b → cond b (some_of {A = ℕ × Terminals} (t.line, ts)) None ≡ Some x → item_step L I t.line t.what (t ∷ ts) ts ≡ plain_at L I true x.0 x.1
+static_item_step L I t ts x true e g = rw (is_fixed_true static_key t.what e) (ap (λ (y : ℕ × Terminals). plain_at L I true y.0 y.1) (some_is (t.line, ts) x g))
 static_item_step L I t ts x false e g = absurd cc
 
-static_item : (L : StmtReader) (I : InitReader) (ts : Pieces) (x : ℕ × Pieces) → after static_key ts ≡ Some x → item_of L I ts ≡ plain_at L I true x.0 x.1
+static_item : (L : StmtReader) (I : InitReader) (ts : Terminals) (x : ℕ × Terminals) → after static_key ts ≡ Some x → item_of L I ts ≡ plain_at L I true x.0 x.1
 unfolding after item_of
 static_item L I [] x e = absurd cc
 static_item L I (t ∷ ts) x e = static_item_step L I t ts x (is_fixed static_key t.what) refl e
 
 -- a type is no struct's beginning where no `{` follows its base
-no_struct : (b : Base) (lines : List ℕ) (ms : Spelling) (ts rest : Pieces) → ((us : Pieces) → Reads ms us rest → after open_brace us ≡ None) → Reads (base_on lines b ms) ts rest → struct_at ts ≡ None
+no_struct : (b : Base) (lines : List ℕ) (ms : Spelling) (ts rest : Terminals) → ((us : Terminals) → Reads ms us rest → after open_brace us ≡ None) → Reads (base_on lines b ms) ts rest → struct_at ts ≡ None
 unfolding struct_at
 no_struct base.Void lines ms ts rest f h = let e = not_other (sign.Key key.Void) struct_key lines ms ts rest void_struct h in rw e refl
 no_struct (base.Kind k) lines ms ts rest f h = let e = not_other (sign.Kind k) struct_key lines ms ts rest refl h in rw e refl
@@ -171,16 +164,16 @@ unfolding same_mark
 star_brace = refl
 
 -- a name behind stars
-no_brace : (lines : List ℕ) (n : ℕ) (at : List ℕ) (name : Word) (ms : Spelling) (ts rest : Pieces) → Reads (stars_on lines n (put_on at (sign.Name name) ms)) ts rest → after open_brace ts ≡ None
+no_brace : (lines : List ℕ) (n : ℕ) (at : List ℕ) (name : Word) (ms : Spelling) (ts rest : Terminals) → Reads (stars_on lines n (put_on at (sign.Name name) ms)) ts rest → after open_brace ts ≡ None
 no_brace lines zero at name ms ts rest h = not_other (sign.Name name) open_brace at ms ts rest refl h
 no_brace lines (suc n) at name ms ts rest h = not_other (sign.Mark mark.Star) open_brace lines (stars_on [] n (put_on at (sign.Name name) ms)) ts rest star_brace h
 
-no_star : (at : List ℕ) (name : Word) (ms : Spelling) (rest us : Pieces) → Reads (put_on at (sign.Name name) ms) us rest → after asterisk us ≡ None
+no_star : (at : List ℕ) (name : Word) (ms : Spelling) (rest us : Terminals) → Reads (put_on at (sign.Name name) ms) us rest → after asterisk us ≡ None
 no_star at name ms rest us h = not_other (sign.Name name) asterisk at ms us rest refl h
 
 -- ---- structs
 
-struct_read : (L : StmtReader) (I : InitReader) (n : ℕ) → InitComplete I n → (name : Word) (members : List Declaration) (line : ℕ) (ts rest : Pieces) → length ts < n → (not (is_empty members) && all_members members) ≡ true
+struct_read : (L : StmtReader) (I : InitReader) (n : ℕ) → InitComplete I n → (name : Word) (members : List Declaration) (line : ℕ) (ts rest : Terminals) → length ts < n → (not (is_empty members) && all_members members) ≡ true
     → Reads (key_on (line ∷ all_first_lines members) key.Struct (put (sign.Name name) (put_mark mark.OpenBrace (flat_map member members ++ put_mark mark.CloseBrace (put_mark mark.Semicolon []))))) ts rest → item_of L I ts ≡ Some (item.Struct name members line, rest)
 unfolding unmarked_at struct_at struct_from
 struct_read L I n all name [] line ts rest lt p h = absurd cc
@@ -206,10 +199,6 @@ struct_read L I n all name (d ∷ ds) line ts rest lt p h =
 
 -- ---- variables
 
-bracket_opening : is_fixed opening (sign.Mark mark.OpenBracket) ≡ false
-unfolding same_mark
-bracket_opening = refl
-
 assign_opening : is_fixed opening (sign.Mark mark.Assign) ≡ false
 unfolding same_mark
 assign_opening = refl
@@ -223,16 +212,16 @@ unfolding same_mark
 semicolon_opening = refl
 
 -- no `(` stands behind a variable's name
-no_opening : (dims : List ℕ) (i : Option Init) (ds : List Declarator) (us mid rest : Pieces) → Reads (dims_then dims (initialiser i)) us mid → Reads (other_names ds ++ put_mark mark.Semicolon []) mid rest → after opening us ≡ None
-no_opening (n ∷ ns) i ds us mid rest h k = not_other (sign.Mark mark.OpenBracket) opening [] (put_size n (put_mark mark.CloseBracket (dims_then ns (initialiser i)))) us mid bracket_opening h
+no_opening : (dims : List ℕ) (i : Option Init) (ds : List Declarator) (us mid rest : Terminals) → Reads (dims_then dims (initialiser i)) us mid → Reads (other_names ds ++ put_mark mark.Semicolon []) mid rest → after opening us ≡ None
+no_opening (n ∷ ns) i ds us mid rest h k = not_other (sign.Mark mark.OpenBracket) opening [] (put_size n (put_mark mark.CloseBracket (dims_then ns (initialiser i)))) us mid index_closed h
 no_opening [] (Some i) ds us mid rest h k = not_other (sign.Mark mark.Assign) opening [] (init_shape i).spelling us mid assign_opening h
-no_opening [] None [] us mid rest h k = subst (λ (y : Pieces). after opening y ≡ None) (sym h) (not_other (sign.Mark mark.Semicolon) opening [] [] mid rest semicolon_opening k)
-no_opening [] None (d ∷ ds) us mid rest h k = subst (λ (y : Pieces). after opening y ≡ None) (sym h) (not_other (sign.Mark mark.Comma) opening [] _ mid rest comma_opening k)
+no_opening [] None [] us mid rest h k = subst (λ (y : Terminals). after opening y ≡ None) (sym h) (not_other (sign.Mark mark.Semicolon) opening [] [] mid rest semicolon_opening k)
+no_opening [] None (d ∷ ds) us mid rest h k = subst (λ (y : Terminals). after opening y ≡ None) (sym h) (not_other (sign.Mark mark.Comma) opening [] _ mid rest comma_opening k)
 
-names_first : (d : Declarator) (ds : List Declarator) (us rest : Pieces) → Reads (commas (map declarator (d ∷ ds)) ++ put_mark mark.Semicolon []) us rest → (mid : Pieces) × Reads (declarator d) us mid × Reads (other_names ds ++ put_mark mark.Semicolon []) mid rest
+names_first : (d : Declarator) (ds : List Declarator) (us rest : Terminals) → Reads (commas (map declarator (d ∷ ds)) ++ put_mark mark.Semicolon []) us rest → (mid : Terminals) × Reads (declarator d) us mid × Reads (other_names ds ++ put_mark mark.Semicolon []) mid rest
 names_first d ds us rest h = reads_split (declarator d) (other_names ds ++ put_mark mark.Semicolon []) us rest (subst (λ (y : Spelling). Reads y us rest) (append_assoc (declarator d) (other_names ds) (put_mark mark.Semicolon [])) h)
 
-not_called : (t : CType) (d : Declarator) (ds : List Declarator) (us rest : Pieces) → Reads (commas (map declarator (d ∷ ds)) ++ put_mark mark.Semicolon []) us rest → called_at (pointers_at (length us) t us).1 ≡ None
+not_called : (t : CType) (d : Declarator) (ds : List Declarator) (us rest : Terminals) → Reads (commas (map declarator (d ∷ ds)) ++ put_mark mark.Semicolon []) us rest → called_at (pointers_at (length us) t us).1 ≡ None
 unfolding called_at
 not_called t d ds us rest h =
     let s = type_shape d.ctype in
@@ -243,14 +232,14 @@ not_called t d ds us rest h =
     let e = no_opening s.dims d.init ds m.next r.0 rest m.reads r.2 in
     rw (w.found, m.found, e) refl
 
-names_no_brace : (d : Declarator) (ds : List Declarator) (rest us : Pieces) → Reads (commas (map declarator (d ∷ ds)) ++ put_mark mark.Semicolon []) us rest → after open_brace us ≡ None
+names_no_brace : (d : Declarator) (ds : List Declarator) (rest us : Terminals) → Reads (commas (map declarator (d ∷ ds)) ++ put_mark mark.Semicolon []) us rest → after open_brace us ≡ None
 names_no_brace d ds rest us h =
     let s = type_shape d.ctype in
     let r = names_first d ds us rest h in
     no_brace (star_lines (held_by d.ctype) d.second) s.stars (d.line ∷ []) d.name (dims_then s.dims (initialiser d.init)) us r.0 (declarator_opened d us r.0 r.1)
 
 -- behind the base
-variables_behind : (L : StmtReader) (I : InitReader) (n : ℕ) → InitComplete I n → (s : Bool) (f first : ℕ) (ds : List Declarator) (us rest : Pieces) → length us < n → are_names true ds ≡ true → Fits (base_lines ds) f → Fits (first_lines ds) first → Reads (commas (map declarator ds) ++ put_mark mark.Semicolon []) us rest
+variables_behind : (L : StmtReader) (I : InitReader) (n : ℕ) → InitComplete I n → (s : Bool) (f first : ℕ) (ds : List Declarator) (us rest : Terminals) → length us < n → are_names true ds ≡ true → Fits (base_lines ds) f → Fits (first_lines ds) first → Reads (commas (map declarator ds) ++ put_mark mark.Semicolon []) us rest
     → plain_from L I s first (common_base ds, f, us) ≡ Some (item.Variables (declared_as s ds), rest)
 unfolding plain_from variables_from
 variables_behind L I n all s f first [] us rest lt p fb fo h = absurd cc
@@ -260,11 +249,11 @@ variables_behind L I n all s f first (d ∷ ds) us rest lt p fb fo h =
     let c = after_reads semicolon [] [] r.next rest r.reads in
     rw (none, r.found, c.found) (some_pair _ _ _ _ refl c.reads)
 
-variables_no_brace : (ds : List Declarator) (rest : Pieces) → are_names true ds ≡ true → (us : Pieces) → Reads (commas (map declarator ds) ++ put_mark mark.Semicolon []) us rest → after open_brace us ≡ None
+variables_no_brace : (ds : List Declarator) (rest : Terminals) → are_names true ds ≡ true → (us : Terminals) → Reads (commas (map declarator ds) ++ put_mark mark.Semicolon []) us rest → after open_brace us ≡ None
 variables_no_brace [] rest p us h = absurd cc
 variables_no_brace (d ∷ ds) rest p us h = names_no_brace d ds rest us h
 
-variables_read : (L : StmtReader) (I : InitReader) (n : ℕ) → InitComplete I n → (s : Bool) (ds : List Declarator) (ts rest : Pieces) → length ts < n → are_names true ds ≡ true → Reads (declared [] s ds ++ put_mark mark.Semicolon []) ts rest → item_of L I ts ≡ Some (item.Variables (declared_as s ds), rest)
+variables_read : (L : StmtReader) (I : InitReader) (n : ℕ) → InitComplete I n → (s : Bool) (ds : List Declarator) (ts rest : Terminals) → length ts < n → are_names true ds ≡ true → Reads (declared [] s ds ++ put_mark mark.Semicolon []) ts rest → item_of L I ts ≡ Some (item.Variables (declared_as s ds), rest)
 unfolding unmarked_at plain_at
 variables_read L I n all true ds ts rest lt p h =
     let names : Spelling = commas (map declarator ds) ++ put_mark mark.Semicolon [] in
@@ -296,7 +285,7 @@ unvoided (base.Tag n) x e = refl
 abbrev IsParameter : ℕ → Declarator → Type 0
 IsParameter first d = ((not (is_void (base_of d)) && is_declarator false (base_of d) d) ≡ true) × Fits (other_lines (held_by d.ctype) d.second) first
 
-parameter_read : (I : InitReader) (n : ℕ) → InitComplete I n → (first : ℕ) (d : Declarator) (ts rest : Pieces) → length ts < n → IsParameter first d → Closes rest → Reads (parameter d) ts rest → parameter_at I first ts ≡ Some (d, rest)
+parameter_read : (I : InitReader) (n : ℕ) → InitComplete I n → (first : ℕ) (d : Declarator) (ts rest : Terminals) → length ts < n → IsParameter first d → Closes rest → Reads (parameter d) ts rest → parameter_at I first ts ≡ Some (d, rest)
 unfolding parameter_at
 parameter_read I n all first d ts rest lt p c h =
     let q = and_elim _ _ p.0 in
@@ -305,21 +294,17 @@ parameter_read I n all first d ts rest lt p c h =
     let r = declarator_read false I n all (base_of d) b.line first d b.next rest (omega arith) (record { reads = b.reads; proper = q.1; at_base = b.fits; at_first = p.1 }) c in
     rw b.found (unvoided (base_of d) _ q.0 ∙ r)
 
-parameters_close : (ds : List Declarator) (ms : Spelling) (ts rest : Pieces) → Reads (other_parameters ds ++ put_mark mark.CloseParen ms) ts rest → Closes ts
+parameters_close : (ds : List Declarator) (ms : Spelling) (ts rest : Terminals) → Reads (other_parameters ds ++ put_mark mark.CloseParen ms) ts rest → Closes ts
 parameters_close [] ms ts rest h = stop_closes (sign.Mark mark.CloseParen) [] ms ts rest close_stops h
 parameters_close (d ∷ ds) ms ts rest h = stop_closes (sign.Mark mark.Comma) [] _ ts rest comma_stops h
 
-record ParametersRead (I : InitReader) (first m : ℕ) (done ds : List Declarator) (ms : Spelling) (ts rest : Pieces) : Type 0 where
-  pub next : Pieces
+record ParametersRead (I : InitReader) (first m : ℕ) (done ds : List Declarator) (ms : Spelling) (ts rest : Terminals) : Type 0 where
+  pub next : Terminals
   pub found : more_parameters I first m done ts ≡ Some (done ++ ds, next)
   pub reads : Reads ms next rest
   pub less : length next < length ts
 
-close_comma : is_fixed comma (sign.Mark mark.CloseParen) ≡ false
-unfolding same_mark
-close_comma = refl
-
-more_parameters_read : (I : InitReader) (n : ℕ) → InitComplete I n → (first m : ℕ) (done ds : List Declarator) (ms : Spelling) (ts rest : Pieces) → length ts < n → length ts ≤ m → all_parameters ds ≡ true → Fits (first_lines ds) first → Reads (other_parameters ds ++ put_mark mark.CloseParen ms) ts rest → ParametersRead I first m done ds ms ts rest
+more_parameters_read : (I : InitReader) (n : ℕ) → InitComplete I n → (first m : ℕ) (done ds : List Declarator) (ms : Spelling) (ts rest : Terminals) → length ts < n → length ts ≤ m → all_parameters ds ≡ true → Fits (first_lines ds) first → Reads (other_parameters ds ++ put_mark mark.CloseParen ms) ts rest → ParametersRead I first m done ds ms ts rest
 unfolding more_parameters
 more_parameters_read I n all first zero done [] ms ts rest lt le p fits h = let a = after_reads close [] ms ts rest h in let l = a.less in absurd (omega arith)
 more_parameters_read I n all first zero done (d ∷ ds) ms ts rest lt le p fits h = let a = after_reads comma [] ((parameter d ++ other_parameters ds) ++ put_mark mark.CloseParen ms) ts rest h in let l = a.less in absurd (omega arith)
@@ -345,8 +330,8 @@ more_parameters_read I n all first (suc m) done (d ∷ ds) ms ts rest lt le p fi
       less = omega arith;
     }
 
-record BracketedRead (I : InitReader) (first : ℕ) (void_word : Bool) (ds : List Declarator) (ms : Spelling) (ts rest : Pieces) : Type 0 where
-  pub next : Pieces
+record BracketedRead (I : InitReader) (first : ℕ) (void_word : Bool) (ds : List Declarator) (ms : Spelling) (ts rest : Terminals) : Type 0 where
+  pub next : Terminals
   pub found : parameters_at I first ts ≡ Some (void_word, ds, next)
   pub reads : Reads ms next rest
   pub less : length next < length ts
@@ -354,7 +339,7 @@ record BracketedRead (I : InitReader) (first : ℕ) (void_word : Bool) (ds : Lis
 void_close : is_fixed close (sign.Key key.Void) ≡ false
 void_close = refl
 
-parameters_read : (I : InitReader) (n : ℕ) → InitComplete I n → (first : ℕ) (void_word : Bool) (ds : List Declarator) (ms : Spelling) (ts rest : Pieces) → length ts < n → (not void_word || is_empty ds) ≡ true → all_parameters ds ≡ true → Fits (first_lines ds) first → Reads (parameters void_word ds (put_mark mark.CloseParen ms)) ts rest → BracketedRead I first void_word ds ms ts rest
+parameters_read : (I : InitReader) (n : ℕ) → InitComplete I n → (first : ℕ) (void_word : Bool) (ds : List Declarator) (ms : Spelling) (ts rest : Terminals) → length ts < n → (not void_word || is_empty ds) ≡ true → all_parameters ds ≡ true → Fits (first_lines ds) first → Reads (parameters void_word ds (put_mark mark.CloseParen ms)) ts rest → BracketedRead I first void_word ds ms ts rest
 unfolding parameters_at
 parameters_read I n all first true (d ∷ ds) ms ts rest lt w p fits h = absurd cc
 parameters_read I n all first true [] ms ts rest lt w p fits h =
@@ -387,7 +372,7 @@ brace_semicolon : is_fixed semicolon (sign.Mark mark.OpenBrace) ≡ false
 unfolding same_mark
 brace_semicolon = refl
 
-body_read : (L : StmtReader) (n : ℕ) → ListedComplete L n → (body : Option (List Stmt)) (ts rest : Pieces) → length ts < n → is_body body ≡ true → Reads (body_then body) ts rest → body_at L ts ≡ Some (body, rest)
+body_read : (L : StmtReader) (n : ℕ) → ListedComplete L n → (body : Option (List Stmt)) (ts rest : Terminals) → length ts < n → is_body body ≡ true → Reads (body_then body) ts rest → body_at L ts ≡ Some (body, rest)
 unfolding body_at
 body_read L n all None ts rest lt p h = let a = after_reads semicolon [] [] ts rest h in rw a.found (some_pair _ _ _ _ refl a.reads)
 body_read L n all (Some ss) ts rest lt p h =
@@ -399,33 +384,29 @@ body_read L n all (Some ss) ts rest lt p h =
 
 -- ---- functions
 
-empty_dims : (ds : List ℕ) → is_empty ds ≡ true → ds ≡ []
-empty_dims [] e = refl
-empty_dims (d ∷ ds) e = absurd cc
-
 -- a result's type is its base with stars
 result_type : (t : CType) → is_type_name t ≡ true → pointed (type_of (type_shape t).base) (type_shape t).stars ≡ t
 result_type t p =
     let q = and_elim _ _ p in
-    sym (ap (λ (y : List ℕ). arrayed (pointed (type_of (type_shape t).base) (type_shape t).stars) y) (empty_dims (type_shape t).dims q.0)) ∙ made_type t q.1
+    sym (ap (λ (y : List ℕ). arrayed (pointed (type_of (type_shape t).base) (type_shape t).stars) y) (no_dims (type_shape t).dims q.0)) ∙ made_type t q.1
 
 -- a function's type and name, and the `(`
-record CalledRead (lines : List ℕ) (result : CType) (name : Word) (second : ℕ) (ms : Spelling) (us rest : Pieces) : Type 0 where
+record CalledRead (lines : List ℕ) (result : CType) (name : Word) (second : ℕ) (ms : Spelling) (us rest : Terminals) : Type 0 where
   pub line : ℕ
-  pub next : Pieces
+  pub next : Terminals
   pub base : base_at us ≡ Some ((type_shape result).base, line, next)
   pub fits : Fits lines line
   pub first : line ≡ line_of us
-  pub mid : Pieces
+  pub mid : Terminals
   pub found : pointers_at (length next) (type_of (type_shape result).base) next ≡ (result, mid)
   pub at : ℕ
-  pub inside : Pieces
+  pub inside : Terminals
   pub called : called_at mid ≡ Some (name, at, inside)
   pub line_is : second_at (type_shape result).base line at next ≡ second
   pub reads : Reads ms inside rest
   pub less : length inside < length us
 
-called_read : (lines : List ℕ) (result : CType) (name : Word) (second : ℕ) (ms : Spelling) (us rest : Pieces) → is_type_name result ≡ true → Reads (type_name lines result second (put_on (other_lines (held_by result) second) (sign.Name name) (put_mark mark.OpenParen ms))) us rest → CalledRead lines result name second ms us rest
+called_read : (lines : List ℕ) (result : CType) (name : Word) (second : ℕ) (ms : Spelling) (us rest : Terminals) → is_type_name result ≡ true → Reads (type_name lines result second (put_on (other_lines (held_by result) second) (sign.Name name) (put_mark mark.OpenParen ms))) us rest → CalledRead lines result name second ms us rest
 unfolding called_at
 called_read lines result name second ms us rest p h =
     let s = type_shape result in
@@ -462,7 +443,7 @@ record IsFunction (void_word : Bool) (params : List Declarator) (body : Option (
   pub at_first : Fits (first_lines params) first
   pub is_body : is_body body ≡ true
 
-function_at : (L : StmtReader) (n : ℕ) → ListedComplete L n → (I : InitReader) → InitComplete I n → (s : Bool) (lines : List ℕ) (result : CType) (name : Word) (void_word : Bool) (params : List Declarator) (body : Option (List Stmt)) (first second : ℕ) (us rest : Pieces) → length us < n → IsFunction void_word params body first
+function_at : (L : StmtReader) (n : ℕ) → ListedComplete L n → (I : InitReader) → InitComplete I n → (s : Bool) (lines : List ℕ) (result : CType) (name : Word) (void_word : Bool) (params : List Declarator) (body : Option (List Stmt)) (first second : ℕ) (us rest : Terminals) → length us < n → IsFunction void_word params body first
     → CalledRead lines result name second (parameters void_word params (put_mark mark.CloseParen (body_then body))) us rest → plain_at L I s first us ≡ Some (item.Function s result name void_word params body first second, rest)
 unfolding plain_at plain_from function_from
 function_at L n listed I inits s lines result name void_word params body first second us rest lt w c =
@@ -472,7 +453,7 @@ function_at L n listed I inits s lines result name void_word params body first s
     let b = body_read L n listed body p.next rest (omega arith) w.is_body p.reads in
     rw (c.base, c.found, c.called, c.line_is, p.found, b) refl
 
-function_read : (L : StmtReader) (n : ℕ) → ListedComplete L n → (I : InitReader) → InitComplete I n → (s : Bool) (result : CType) (name : Word) (void_word : Bool) (params : List Declarator) (body : Option (List Stmt)) (line second : ℕ) (ts rest : Pieces) → length ts < n
+function_read : (L : StmtReader) (n : ℕ) → ListedComplete L n → (I : InitReader) → InitComplete I n → (s : Bool) (result : CType) (name : Word) (void_word : Bool) (params : List Declarator) (body : Option (List Stmt)) (line second : ℕ) (ts rest : Terminals) → length ts < n
     → (is_type_name result && ((not void_word || is_empty params) && (all_parameters params && is_body body))) ≡ true
     → Reads (function s (line ∷ first_lines params) result second (named_function result name void_word params body second)) ts rest → item_of L I ts ≡ Some (item.Function s result name void_word params body line second, rest)
 unfolding unmarked_at
@@ -504,12 +485,12 @@ function_read L n listed I inits false result name void_word params body line se
 
 -- ---- items
 
-cle_read : (L : StmtReader) (I : InitReader) (p : Rattle.cl_tree.specs.declared.token.Pragma.Pragma) (line : ℕ) (ts rest : Pieces) → Reads (put_at line (sign.Cle p) []) ts rest → item_of L I ts ≡ Some (item.Cle p line, rest)
+cle_read : (L : StmtReader) (I : InitReader) (p : Rattle.cl_tree.specs.declared.token.Pragma.Pragma) (line : ℕ) (ts rest : Terminals) → Reads (put_at line (sign.Cle p) []) ts rest → item_of L I ts ≡ Some (item.Cle p line, rest)
 unfolding item_of
 cle_read L I p line [] rest h = absurd h
 cle_read L I p line (t ∷ ts) rest h = rw (h.0, h.1.0) (some_pair _ _ _ _ refl h.2)
 
-pub item_read : (L : StmtReader) (n : ℕ) → ListedComplete L n → (I : InitReader) → InitComplete I n → (i : Item) (ts rest : Pieces) → length ts < n → Itemised i ts rest → item_of L I ts ≡ Some (i, rest)
+pub item_read : (L : StmtReader) (n : ℕ) → ListedComplete L n → (I : InitReader) → InitComplete I n → (i : Item) (ts rest : Terminals) → length ts < n → Itemised i ts rest → item_of L I ts ≡ Some (i, rest)
 unfolding item_spelling is_item declaration is_declaration
 item_read L n listed I inits (item.Struct name members line) ts rest lt w = struct_read L I n inits name members line ts rest lt w.proper w.reads
 item_read L n listed I inits (item.Variables d) ts rest lt w = variables_read L I n inits d.is_static d.names ts rest lt w.proper w.reads

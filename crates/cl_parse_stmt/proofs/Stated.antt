@@ -12,7 +12,7 @@ use Rattle.cl_tree.specs.declared.grammar.Keyword.TheVariants as key
 use Rattle.cl_tree.specs.declared.grammar.Base.{Base}
 use Rattle.cl_tree.specs.declared.grammar.Sign.{Sign}
 use Rattle.cl_tree.specs.declared.grammar.Sign.TheVariants as sign
-use Rattle.cl_tree.specs.declared.grammar.Piece.{Piece}
+use Rattle.cl_tree.specs.declared.grammar.Terminal.{Terminal}
 use Rattle.cl_tree.specs.declared.tree.Expr.{Expr}
 use Rattle.cl_tree.specs.declared.tree.Node.{Node, Node-F, out-Node}
 use Rattle.cl_tree.specs.declared.tree.Node.TheOpen as node
@@ -27,7 +27,7 @@ use Rattle.cl_tree.specs.Spelling.{Spelling, put_mark, put_key, mark_on, mark_at
 use Rattle.cl_tree.specs.Statements.{Form, simple, declares, other, StmtShape, act_step, stmt_shape, assign_mark, assigns, bump_mark, is_call, before_semicolon, of_form, is_statement, is_simple, is_head, is_part, all_stmts, statements, head_first, head_test, head_next, is_first, is_test, is_next, declared, declaration, is_declaration}
 use Rattle.cl_parse_expr.specs.declared.cursor.Fixed.{Fixed}
 use Rattle.cl_parse_expr.specs.declared.cursor.Fixed.TheVariants as fixed
-use Rattle.cl_parse_expr.specs.Cursor.{◌>>=◌, Pieces, after, found, fixed_sign, is_fixed, line_of}
+use Rattle.cl_parse_expr.specs.Cursor.{◌>>=◌, Terminals, after, found, fixed_sign, is_fixed, line_of}
 use Rattle.cl_parse_expr.specs.Types.{base_at}
 use Rattle.cl_parse_expr.specs.Reading.{Reader, opening, close}
 use Rattle.cl_parse_expr.proofs.Shapes.{shape_is, shaped}
@@ -66,36 +66,36 @@ stmt_is p x n e r = ap (λ (y : Act). stmt p.line p.second y) (sym r ∙ ap (λ 
 abbrev pub else_key : Fixed
 else_key = fixed.Key key.Else
 
-abbrev pub NoElse : Pieces → Type 0
+abbrev pub NoElse : Terminals → Type 0
 NoElse ts = after else_key ts ≡ None
 
 -- a statement of any form
-pub record Stated (p : Stmt) (ts rest : Pieces) : Type 0 where
+pub record Stated (p : Stmt) (ts rest : Terminals) : Type 0 where
   pub reads : Reads (stmt_shape p).spelling ts rest
   pub proper : (stmt_shape p).proper ≡ true
   pub closed : (stmt_shape p).dangling ≡ true → NoElse rest
 
 -- a statement of the grammar
-pub record Part (p : Stmt) (ts rest : Pieces) : Type 0 where
+pub record Part (p : Stmt) (ts rest : Terminals) : Type 0 where
   pub stated : Stated p ts rest
   pub form : is_statement (stmt_shape p).form ≡ true
 
 -- what stands before a `;`
-pub record Lined (form : Form) (p : Stmt) (ts rest : Pieces) : Type 0 where
+pub record Lined (form : Form) (p : Stmt) (ts rest : Terminals) : Type 0 where
   pub bare : Spelling
   pub is : stmt_shape p ≡ before_semicolon form bare true
   pub reads : Reads bare ts rest
 
 abbrev pub StmtSound : StmtReader → Type 0
-StmtSound S = (ts : Pieces) (x : Stmt × Pieces) → S ts ≡ Some x → Part x.0 ts x.1
+StmtSound S = (ts : Terminals) (x : Stmt × Terminals) → S ts ≡ Some x → Part x.0 ts x.1
 
 abbrev pub ListedSound : StmtReader → Type 0
-ListedSound L = (ts : Pieces) (x : Stmt × Pieces) → L ts ≡ Some x → Stated x.0 ts x.1
+ListedSound L = (ts : Terminals) (x : Stmt × Terminals) → L ts ≡ Some x → Stated x.0 ts x.1
 
-never : (ts : Pieces) → false ≡ true → NoElse ts
+never : (ts : Terminals) → false ≡ true → NoElse ts
 never ts e = cc
 
-part_made : (l c : ℕ) (n : Act) (x : Act-F Act Stmt) (ts rest : Pieces) → out-Act n ≡ x → Reads (act_step (stmt_shaped x) l c).spelling ts rest → (act_step (stmt_shaped x) l c).proper ≡ true → is_statement (act_step (stmt_shaped x) l c).form ≡ true → ((act_step (stmt_shaped x) l c).dangling ≡ true → NoElse rest) → Part (stmt l c n) ts rest
+part_made : (l c : ℕ) (n : Act) (x : Act-F Act Stmt) (ts rest : Terminals) → out-Act n ≡ x → Reads (act_step (stmt_shaped x) l c).spelling ts rest → (act_step (stmt_shaped x) l c).proper ≡ true → is_statement (act_step (stmt_shaped x) l c).form ≡ true → ((act_step (stmt_shaped x) l c).dangling ≡ true → NoElse rest) → Part (stmt l c n) ts rest
 part_made l c n x ts rest o r p f q =
     let e = stmt_made l c n x o in
     record {
@@ -108,11 +108,11 @@ part_made l c n x ts rest o r p f q =
     }
 
 -- a guard that held
-guarded : {A : Type 0} (b : Bool) (x : Option A) (y : A) → cond b x None ≡ Some y → (b ≡ true) × (x ≡ Some y)
+pub guarded : {A : Type 0} (b : Bool) (x : Option A) (y : A) → cond b x None ≡ Some y → (b ≡ true) × (x ≡ Some y)
 guarded true x y e = (refl, e)
 guarded false x y e = absurd cc
 
-lined : (l c : ℕ) (n : Act) (x : Act-F Act Stmt) (form : Form) (bare : Spelling) (b : Bool) (ts rest : Pieces) → out-Act n ≡ x → act_step (stmt_shaped x) l c ≡ before_semicolon form bare b → b ≡ true → Reads bare ts rest → Lined form (stmt l c n) ts rest
+lined : (l c : ℕ) (n : Act) (x : Act-F Act Stmt) (form : Form) (bare : Spelling) (b : Bool) (ts rest : Terminals) → out-Act n ≡ x → act_step (stmt_shaped x) l c ≡ before_semicolon form bare b → b ≡ true → Reads bare ts rest → Lined form (stmt l c n) ts rest
 lined l c n x form bare b ts rest o e t r = record { bare = bare; is = stmt_made l c n x o ∙ e ∙ ap (λ (y : Bool). before_semicolon form bare y) t; reads = r }
 
 -- ---- simple statements
@@ -169,12 +169,12 @@ sign_bump (sign.Mark m) up e = ap (λ (y : Mark). sign.Mark y) (bump_is m up e)
 sign_bump _ up e = absurd cc
 
 -- a tail that was found
-tail_assigned : (ts : Pieces) (op : Option BinOp) → (tail_at ts).0 ≡ tail.Assign op → (assigns op ≡ true) × ((ms : Spelling) (rest : Pieces) → Reads ms (tail_at ts).2 rest → Reads (mark_at (tail_at ts).1 (assign_mark op) ms) ts rest)
+tail_assigned : (ts : Terminals) (op : Option BinOp) → (tail_at ts).0 ≡ tail.Assign op → (assigns op ≡ true) × ((ms : Spelling) (rest : Terminals) → Reads ms (tail_at ts).2 rest → Reads (mark_at (tail_at ts).1 (assign_mark op) ms) ts rest)
 unfolding tail_at
 tail_assigned [] op e = absurd cc
 tail_assigned (t ∷ ts) op e = let a = sign_assign t.what op e in (a.1, λ ms rest r. (a.0, (refl, tt), r))
 
-tail_bumped : (ts : Pieces) (up : Bool) → (tail_at ts).0 ≡ tail.Bump up → Reads (mark_at (tail_at ts).1 (bump_mark up) []) ts (tail_at ts).2
+tail_bumped : (ts : Terminals) (up : Bool) → (tail_at ts).0 ≡ tail.Bump up → Reads (mark_at (tail_at ts).1 (bump_mark up) []) ts (tail_at ts).2
 unfolding tail_at
 tail_bumped [] up e = absurd cc
 tail_bumped (t ∷ ts) up e = (sign_bump t.what up e, (refl, tt), refl)
@@ -200,12 +200,12 @@ unary_level : (e : Expr) → is_unary e ≡ true → 13 ≤ (shape e).level
 unfolding is_unary
 unary_level e h = rw (shape_is e) (unary_step (out-Node e.node) e.line e.second h)
 
-tail_sound : (E : Reader) → Sound E → (start : Pieces) (a : Expr) (here : Pieces) → Reads (shape a).spelling start here → (shape a).proper ≡ true → (y : Tail) → (tail_at here).0 ≡ y → (x : Stmt × Pieces) → ended_by E a here y (tail_at here).1 (tail_at here).2 ≡ Some x → Lined simple x.0 start x.1
+tail_sound : (E : Reader) → Sound E → (start : Terminals) (a : Expr) (here : Terminals) → Reads (shape a).spelling start here → (shape a).proper ≡ true → (y : Tail) → (tail_at here).0 ≡ y → (x : Stmt × Terminals) → ended_by E a here y (tail_at here).1 (tail_at here).2 ≡ Some x → Lined simple x.0 start x.1
 unfolding ended_by
 tail_sound E sound start a here reads proper tail.Nothing q x e =
     let g = guarded (is_call a) (Some (stmt a.line a.line (made.Call a), here)) x e in
     let z = some_is (stmt a.line a.line (made.Call a), here) x g.1 in
-    subst (λ (y : Stmt × Pieces). Lined simple y.0 start y.1) z
+    subst (λ (y : Stmt × Terminals). Lined simple y.0 start y.1) z
     (lined a.line a.line (made.Call a) (act.Call a) simple (first_on (a.line ∷ a.line ∷ []) (shape a).spelling) _ start here (outs-Call a) refl
     (and_intro _ _ g.0 proper) (begun (a.line ∷ a.line ∷ []) a start here (refl, (refl, tt)) reads))
 tail_sound E sound start a here reads proper (tail.Assign op) q x e =
@@ -216,7 +216,7 @@ tail_sound E sound start a here reads proper (tail.Assign op) q x e =
     let b = bind_some (E 1 next) (λ b. Some (stmt a.line line (made.Set op a b.0), b.1)) x g.1 in
     let w = sound 1 next b.0 (omega arith) (omega arith) b.1 in
     let z = some_is (stmt a.line line (made.Set op a b.0.0), b.0.1) x b.2 in
-    subst (λ (y : Stmt × Pieces). Lined simple y.0 start y.1) z
+    subst (λ (y : Stmt × Terminals). Lined simple y.0 start y.1) z
     (lined a.line line (made.Set op a b.0.0) (act.Set op a b.0.0) simple (first_on (a.line ∷ []) (shape a).spelling ++ mark_at line (assign_mark op) (shape b.0.0).spelling) _ start b.0.1 (outs-Set op a b.0.0) refl
     (and_intro _ _ t.0 (and_intro _ _ (le-leb 13 _ (unary_level a g.0)) (and_intro _ _ proper w.left.proper)))
     (reads_append (first_on (a.line ∷ []) (shape a).spelling) _ start here b.0.1 (begun (a.line ∷ []) a start here (refl, tt) reads) (t.1 (shape b.0.0).spelling b.0.1 w.left.reads)))
@@ -225,26 +225,26 @@ tail_sound E sound start a here reads proper (tail.Bump up) q x e =
     let next = (tail_at here).2 in
     let g = guarded (is_unary a) (Some (stmt a.line line (made.Bump up false a), next)) x e in
     let z = some_is (stmt a.line line (made.Bump up false a), next) x g.1 in
-    subst (λ (y : Stmt × Pieces). Lined simple y.0 start y.1) z
+    subst (λ (y : Stmt × Terminals). Lined simple y.0 start y.1) z
     (lined a.line line (made.Bump up false a) (act.Bump up false a) simple (first_on (a.line ∷ []) (shape a).spelling ++ mark_at line (bump_mark up) []) _ start next (outs-Bump up false a) refl
     (and_intro _ _ (le-leb 13 _ (unary_level a g.0)) proper)
     (reads_append (first_on (a.line ∷ []) (shape a).spelling) _ start here next (begun (a.line ∷ []) a start here (refl, tt) reads) (tail_bumped here up q)))
 
-bumped_sound : (E : Reader) → Sound E → (start : Pieces) (m : Mark) (up : Bool) → m ≡ bump_mark up → (o : ℕ × Pieces) → after (fixed.Mark m) start ≡ Some o → (x : Stmt × Pieces) → bumped E up o.0 o.1 ≡ Some x → Lined simple x.0 start x.1
+bumped_sound : (E : Reader) → Sound E → (start : Terminals) (m : Mark) (up : Bool) → m ≡ bump_mark up → (o : ℕ × Terminals) → after (fixed.Mark m) start ≡ Some o → (x : Stmt × Terminals) → bumped E up o.0 o.1 ≡ Some x → Lined simple x.0 start x.1
 unfolding bumped
 bumped_sound E sound start m up same o f x e =
     let a = bind_some (E 12 o.1) (λ a. cond (is_unary a.0) (Some (stmt o.0 o.0 (made.Bump up true a.0), a.1)) None) x e in
     let w = sound 12 o.1 a.0 (omega arith) (omega arith) a.1 in
     let g = guarded (is_unary a.0.0) (Some (stmt o.0 o.0 (made.Bump up true a.0.0), a.0.1)) x a.2 in
     let z = some_is (stmt o.0 o.0 (made.Bump up true a.0.0), a.0.1) x g.1 in
-    subst (λ (y : Stmt × Pieces). Lined simple y.0 start y.1) z
+    subst (λ (y : Stmt × Terminals). Lined simple y.0 start y.1) z
     (lined o.0 o.0 (made.Bump up true a.0.0) (act.Bump up true a.0.0) simple (mark_on (o.0 ∷ o.0 ∷ []) (bump_mark up) (shape a.0.0).spelling) _ start a.0.1 (outs-Bump up true a.0.0) refl
     (and_intro _ _ (le-leb 13 _ (unary_level a.0.0 g.0)) w.left.proper)
     (subst (λ (y : Mark). Reads (mark_on (o.0 ∷ o.0 ∷ []) y (shape a.0.0).spelling) start a.0.1) same
     (found_sound (fixed.Mark m) (o.0 ∷ o.0 ∷ []) (shape a.0.0).spelling start a.0.1 o f (refl, (refl, tt)) w.left.reads)))
 
 abbrev pub LineSound : Form → StmtReader → Type 0
-LineSound form S = (ts : Pieces) (x : Stmt × Pieces) → S ts ≡ Some x → Lined form x.0 ts x.1
+LineSound form S = (ts : Terminals) (x : Stmt × Terminals) → S ts ≡ Some x → Lined form x.0 ts x.1
 
 pub simple_sound : (E : Reader) → Sound E → LineSound simple (simple_at E)
 unfolding simple_at from_place
@@ -262,12 +262,12 @@ simple_sound E sound ts x e =
 
 -- ---- declarations
 
-declared_line : (l : ℕ) (b : Bool) (ds : List Declarator) (start rest : Pieces) → Reads (declared (l ∷ l ∷ []) b ds) start rest → (is_declaration (declared_as b ds)) ≡ true → Lined declares (stmt l l (made.Declare (declared_as b ds))) start rest
+declared_line : (l : ℕ) (b : Bool) (ds : List Declarator) (start rest : Terminals) → Reads (declared (l ∷ l ∷ []) b ds) start rest → (is_declaration (declared_as b ds)) ≡ true → Lined declares (stmt l l (made.Declare (declared_as b ds))) start rest
 unfolding declaration
 declared_line l b ds start rest r p =
     lined l l (made.Declare (declared_as b ds)) (act.Declare (declared_as b ds)) declares (declared (l ∷ l ∷ []) b ds) _ start rest (outs-Declare (declared_as b ds)) refl p r
 
-named_proper : (b : Bool) (I : InitReader) (b0 : Base) (f o : ℕ) (ds : List Declarator) (ts rest : Pieces) → Named_all true b0 f o ds ts rest → is_declaration (declared_as b ds) ≡ true
+named_proper : (b : Bool) (I : InitReader) (b0 : Base) (f o : ℕ) (ds : List Declarator) (ts rest : Terminals) → Named_all true b0 f o ds ts rest → is_declaration (declared_as b ds) ≡ true
 unfolding is_declaration
 named_proper b I b0 f o ds ts rest w = w.proper
 
@@ -283,8 +283,8 @@ declare_sound I sound ts x e =
           let w = names_sound true I sound b.0.0 b.0.1 s.0 b.0.2 n.0 n.1 in
           let q = some_is (declared_as true n.0.0, n.0.1) d.0 n.2 in
           let z = some_is (stmt s.0 s.0 (made.Declare d.0.0), d.0.1) x d.2 in
-          subst (λ (y : Stmt × Pieces). Lined declares y.0 ts y.1) z
-          (subst (λ (y : Declaration × Pieces). Lined declares (stmt s.0 s.0 (made.Declare y.0)) ts y.1) q
+          subst (λ (y : Stmt × Terminals). Lined declares y.0 ts y.1) z
+          (subst (λ (y : Declaration × Terminals). Lined declares (stmt s.0 s.0 (made.Declare y.0)) ts y.1) q
           (declared_line s.0 true n.0.0 ts n.0.1 (declared_static (s.0 ∷ s.0 ∷ []) ts s h.1 b.0 b.1 (refl, (refl, tt)) n.0 w) (named_proper true I b.0.0 b.0.1 s.0 n.0.0 b.0.2 n.0.1 w)))
       | inl h ↦
           let l = line_of ts in
@@ -294,25 +294,25 @@ declare_sound I sound ts x e =
           let w = names_sound true I sound b.0.0 b.0.1 l b.0.2 n.0 n.1 in
           let q = some_is (declared_as false n.0.0, n.0.1) d.0 n.2 in
           let z = some_is (stmt l l (made.Declare d.0.0), d.0.1) x d.2 in
-          subst (λ (y : Stmt × Pieces). Lined declares y.0 ts y.1) z
-          (subst (λ (y : Declaration × Pieces). Lined declares (stmt l l (made.Declare y.0)) ts y.1) q
+          subst (λ (y : Stmt × Terminals). Lined declares y.0 ts y.1) z
+          (subst (λ (y : Declaration × Terminals). Lined declares (stmt l l (made.Declare y.0)) ts y.1) q
           (declared_line l false n.0.0 ts n.0.1 (declared_plain (l ∷ l ∷ []) l ts b.0 b.1 refl (refl, (refl, tt)) n.0 w) (named_proper false I b.0.0 b.0.1 l n.0.0 b.0.2 n.0.1 w)))
     ]
 
 -- a simple statement or a declaration, with its `;`
-lined_stated : (form : Form) (p : Stmt) (ts mid : Pieces) (c : ℕ × Pieces) → Lined form p ts mid → after semicolon mid ≡ Some c → Stated p ts c.1
+lined_stated : (form : Form) (p : Stmt) (ts mid : Terminals) (c : ℕ × Terminals) → Lined form p ts mid → after semicolon mid ≡ Some c → Stated p ts c.1
 lined_stated form p ts mid c l f = record {
   reads = subst (λ (y : StmtShape). Reads y.spelling ts c.1) (sym l.is) (reads_append l.bare _ ts mid c.1 l.reads (found_sound semicolon [] [] mid c.1 c f tt refl));
   proper = ap (λ (y : StmtShape). y.proper) l.is;
   closed = subst (λ (y : StmtShape). y.dangling ≡ true → NoElse c.1) (sym l.is) (never c.1);
 }
 
-lined_form : (form : Form) (p : Stmt) (ts mid : Pieces) → Lined form p ts mid → (stmt_shape p).form ≡ form
+lined_form : (form : Form) (p : Stmt) (ts mid : Terminals) → Lined form p ts mid → (stmt_shape p).form ≡ form
 lined_form form p ts mid l = ap (λ (y : StmtShape). y.form) l.is
 
 -- ---- the parts of statements
 
-test_sound : (E : Reader) → Sound E → (ts : Pieces) (x : Expr × Pieces) → test_at E ts ≡ Some x → ((shape x.0).proper ≡ true) × ((ms : Spelling) (rest : Pieces) → Reads ms x.1 rest → Reads (put_mark mark.OpenParen ((shape x.0).spelling ++ put_mark mark.CloseParen ms)) ts rest)
+test_sound : (E : Reader) → Sound E → (ts : Terminals) (x : Expr × Terminals) → test_at E ts ≡ Some x → ((shape x.0).proper ≡ true) × ((ms : Spelling) (rest : Terminals) → Reads ms x.1 rest → Reads (put_mark mark.OpenParen ((shape x.0).spelling ++ put_mark mark.CloseParen ms)) ts rest)
 unfolding test_at
 test_sound E sound ts x e =
     let o = bind_some (after opening ts) (λ o. E 1 o.1 >>= λ c. after close c.1 >>= λ d. Some (c.0, d.1)) x e in
@@ -320,21 +320,21 @@ test_sound E sound ts x e =
     let d = bind_some (after close c.0.1) (λ d. Some (c.0.0, d.1)) x c.2 in
     let w = sound 1 o.0.1 c.0 (omega arith) (omega arith) c.1 in
     let z = some_is (c.0.0, d.0.1) x d.2 in
-    subst (λ (y : Expr × Pieces). ((shape y.0).proper ≡ true) × ((ms : Spelling) (rest : Pieces) → Reads ms y.1 rest → Reads (put_mark mark.OpenParen ((shape y.0).spelling ++ put_mark mark.CloseParen ms)) ts rest)) z (
+    subst (λ (y : Expr × Terminals). ((shape y.0).proper ≡ true) × ((ms : Spelling) (rest : Terminals) → Reads ms y.1 rest → Reads (put_mark mark.OpenParen ((shape y.0).spelling ++ put_mark mark.CloseParen ms)) ts rest)) z (
       w.left.proper,
       λ ms rest r. found_sound opening [] _ ts rest o.0 o.1 tt
           (reads_append (shape c.0.0).spelling _ o.0.1 c.0.1 rest w.left.reads (found_sound close [] ms c.0.1 rest d.0 d.1 tt r)),
     )
 
--- the first piece is a key, and what it begins is read behind it
-abbrev Key : Keyword → Pieces → ℕ × Pieces → Type 0
+-- the first terminal is a key, and what it begins is read behind it
+abbrev Key : Keyword → Terminals → ℕ × Terminals → Type 0
 Key k start o = after (fixed.Key k) start ≡ Some o
 
-not_open : (b : Bool) (ts : Pieces) (y : ℕ × Pieces) → (b ≡ true → NoElse ts) → after else_key ts ≡ Some y → not b ≡ true
+not_open : (b : Bool) (ts : Terminals) (y : ℕ × Terminals) → (b ≡ true → NoElse ts) → after else_key ts ≡ Some y → not b ≡ true
 not_open false ts y h e = refl
 not_open true ts y h e = let n = h refl in absurd cc
 
-if_sound : (E : Reader) → Sound E → (S : StmtReader) → StmtSound S → (start : Pieces) (o : ℕ × Pieces) → Key key.If start o → (x : Stmt × Pieces) → if_at S E o.0 o.1 ≡ Some x → Part x.0 start x.1
+if_sound : (E : Reader) → Sound E → (S : StmtReader) → StmtSound S → (start : Terminals) (o : ℕ × Terminals) → Key key.If start o → (x : Stmt × Terminals) → if_at S E o.0 o.1 ≡ Some x → Part x.0 start x.1
 unfolding if_at
 if_sound E sound S both start o begin x e =
     let l = o.0 in
@@ -345,7 +345,7 @@ if_sound E sound S both start o begin x e =
     elim (found_ok (after else_key s.0.1) (λ e. S e.1 >>= λ t. Some (stmt l l (made.If c.0.0 s.0.0 (Some t.0)), t.1)) (Some (stmt l l (made.If c.0.0 s.0.0 None), s.0.1)) (Some x) s.2) [
       | inl h ↦
           let z = some_is (stmt l l (made.If c.0.0 s.0.0 None), s.0.1) x h.1 in
-          subst (λ (y : Stmt × Pieces). Part y.0 start y.1) z
+          subst (λ (y : Stmt × Terminals). Part y.0 start y.1) z
           (part_made l l (made.If c.0.0 s.0.0 None) (act.If c.0.0 s.0.0 None) start s.0.1 (outs-If c.0.0 s.0.0 None)
           (found_sound (fixed.Key key.If) (l ∷ l ∷ []) (put_mark mark.OpenParen ((shape c.0.0).spelling ++ put_mark mark.CloseParen (stmt_shape s.0.0).spelling)) start s.0.1 o begin (refl, (refl, tt)) (d.1 (stmt_shape s.0.0).spelling s.0.1 u.stated.reads))
           (and_intro _ _ d.0 (and_intro _ _ u.form u.stated.proper)) refl (λ _. h.0))
@@ -353,7 +353,7 @@ if_sound E sound S both start o begin x e =
           let t = bind_some (S h.0.1) (λ t. Some (stmt l l (made.If c.0.0 s.0.0 (Some t.0)), t.1)) x h.2 in
           let v = both h.0.1 t.0 t.1 in
           let z = some_is (stmt l l (made.If c.0.0 s.0.0 (Some t.0.0)), t.0.1) x t.2 in
-          subst (λ (y : Stmt × Pieces). Part y.0 start y.1) z
+          subst (λ (y : Stmt × Terminals). Part y.0 start y.1) z
           (part_made l l (made.If c.0.0 s.0.0 (Some t.0.0)) (act.If c.0.0 s.0.0 (Some t.0.0)) start t.0.1 (outs-If c.0.0 s.0.0 (Some t.0.0))
           (found_sound (fixed.Key key.If) (l ∷ l ∷ []) (put_mark mark.OpenParen ((shape c.0.0).spelling ++ put_mark mark.CloseParen ((stmt_shape s.0.0).spelling ++ put_key key.Else (stmt_shape t.0.0).spelling))) start t.0.1 o begin (refl, (refl, tt))
           (d.1 ((stmt_shape s.0.0).spelling ++ put_key key.Else (stmt_shape t.0.0).spelling) t.0.1
@@ -362,7 +362,7 @@ if_sound E sound S both start o begin x e =
           refl v.stated.closed)
     ]
 
-while_sound : (E : Reader) → Sound E → (S : StmtReader) → StmtSound S → (start : Pieces) (o : ℕ × Pieces) → Key key.While start o → (x : Stmt × Pieces) → while_at S E o.0 o.1 ≡ Some x → Part x.0 start x.1
+while_sound : (E : Reader) → Sound E → (S : StmtReader) → StmtSound S → (start : Terminals) (o : ℕ × Terminals) → Key key.While start o → (x : Stmt × Terminals) → while_at S E o.0 o.1 ≡ Some x → Part x.0 start x.1
 unfolding while_at
 while_sound E sound S both start o begin x e =
     let l = o.0 in
@@ -371,12 +371,12 @@ while_sound E sound S both start o begin x e =
     let s = bind_some (S c.0.1) (λ s. Some (stmt l l (made.While c.0.0 s.0), s.1)) x c.2 in
     let u = both c.0.1 s.0 s.1 in
     let z = some_is (stmt l l (made.While c.0.0 s.0.0), s.0.1) x s.2 in
-    subst (λ (y : Stmt × Pieces). Part y.0 start y.1) z
+    subst (λ (y : Stmt × Terminals). Part y.0 start y.1) z
     (part_made l l (made.While c.0.0 s.0.0) (act.While c.0.0 s.0.0) start s.0.1 (outs-While c.0.0 s.0.0)
     (found_sound (fixed.Key key.While) (l ∷ l ∷ []) (put_mark mark.OpenParen ((shape c.0.0).spelling ++ put_mark mark.CloseParen (stmt_shape s.0.0).spelling)) start s.0.1 o begin (refl, (refl, tt)) (d.1 (stmt_shape s.0.0).spelling s.0.1 u.stated.reads))
     (and_intro _ _ d.0 (and_intro _ _ u.form u.stated.proper)) refl u.stated.closed)
 
-do_sound : (E : Reader) → Sound E → (S : StmtReader) → StmtSound S → (start : Pieces) (o : ℕ × Pieces) → Key key.Do start o → (x : Stmt × Pieces) → do_at S E o.0 o.1 ≡ Some x → Part x.0 start x.1
+do_sound : (E : Reader) → Sound E → (S : StmtReader) → StmtSound S → (start : Terminals) (o : ℕ × Terminals) → Key key.Do start o → (x : Stmt × Terminals) → do_at S E o.0 o.1 ≡ Some x → Part x.0 start x.1
 unfolding do_at
 do_sound E sound S both start o begin x e =
     let l = o.0 in
@@ -387,25 +387,25 @@ do_sound E sound S both start o begin x e =
     let u = both o.1 s.0 s.1 in
     let d = test_sound E sound w.0.1 c.0 c.1 in
     let z = some_is (stmt l l (made.DoWhile s.0.0 c.0.0), f.0.1) x f.2 in
-    subst (λ (y : Stmt × Pieces). Part y.0 start y.1) z
+    subst (λ (y : Stmt × Terminals). Part y.0 start y.1) z
     (part_made l l (made.DoWhile s.0.0 c.0.0) (act.DoWhile s.0.0 c.0.0) start f.0.1 (outs-DoWhile s.0.0 c.0.0)
     (found_sound (fixed.Key key.Do) (l ∷ l ∷ []) ((stmt_shape s.0.0).spelling ++ put_key key.While (put_mark mark.OpenParen ((shape c.0.0).spelling ++ put_mark mark.CloseParen (put_mark mark.Semicolon [])))) start f.0.1 o begin (refl, (refl, tt))
     (reads_append (stmt_shape s.0.0).spelling (put_key key.While (put_mark mark.OpenParen ((shape c.0.0).spelling ++ put_mark mark.CloseParen (put_mark mark.Semicolon [])))) o.1 s.0.1 f.0.1 u.stated.reads
     (found_sound (fixed.Key key.While) [] (put_mark mark.OpenParen ((shape c.0.0).spelling ++ put_mark mark.CloseParen (put_mark mark.Semicolon []))) s.0.1 f.0.1 w.0 w.1 tt (d.1 (put_mark mark.Semicolon []) f.0.1 (found_sound semicolon [] [] c.0.1 f.0.1 f.0 f.1 tt refl)))))
     (and_intro _ _ (and_intro _ _ u.form u.stated.proper) d.0) refl (never f.0.1))
 
-first_sound : (E : Reader) → Sound E → (I : InitReader) → InitSound I → (ts : Pieces) (x : Option Stmt × Pieces) → first_at E I ts ≡ Some x → Reads (head_first (option_map stmt_shape x.0)) ts x.1 × (is_first (option_map stmt_shape x.0) ≡ true)
+first_sound : (E : Reader) → Sound E → (I : InitReader) → InitSound I → (ts : Terminals) (x : Option Stmt × Terminals) → first_at E I ts ≡ Some x → Reads (head_first (option_map stmt_shape x.0)) ts x.1 × (is_first (option_map stmt_shape x.0) ≡ true)
 unfolding first_at line_at
 first_sound E sound I inits ts x e =
     elim (found_ok (after semicolon ts) (λ o. Some (None, o.1)) (before (cond (declares_at ts) (declare_at I ts) (simple_at E ts)) semicolon >>= λ s. Some (Some s.0, s.1)) (Some x) e) [
       | inr h ↦
           let z = some_is (None, h.0.1) x h.2 in
-          subst (λ (y : Option Stmt × Pieces). Reads (head_first (option_map stmt_shape y.0)) ts y.1 × (is_first (option_map stmt_shape y.0) ≡ true)) z
+          subst (λ (y : Option Stmt × Terminals). Reads (head_first (option_map stmt_shape y.0)) ts y.1 × (is_first (option_map stmt_shape y.0) ≡ true)) z
           (found_sound semicolon [] [] ts h.0.1 h.0 h.1 tt refl, refl)
       | inl h ↦ by_line (declares_at ts) h.1
     ]
   where
-    spelled : (form : Form) → is_head form ≡ true → (p : Stmt) (mid : Pieces) (c : ℕ × Pieces) → Lined form p ts mid → after semicolon mid ≡ Some c → Reads (stmt_shape p).spelling ts c.1 × ((is_head (stmt_shape p).form && (stmt_shape p).proper) ≡ true)
+    spelled : (form : Form) → is_head form ≡ true → (p : Stmt) (mid : Terminals) (c : ℕ × Terminals) → Lined form p ts mid → after semicolon mid ≡ Some c → Reads (stmt_shape p).spelling ts c.1 × ((is_head (stmt_shape p).form && (stmt_shape p).proper) ≡ true)
     spelled form hd p mid c l f =
         let s = lined_stated form p ts mid c l f in
         (s.reads, and_intro _ _ (subst (λ (y : Form). is_head y ≡ true) (sym (lined_form form p ts mid l)) hd) s.proper)
@@ -418,37 +418,37 @@ first_sound E sound I inits ts x e =
         let r = spelled form hd p.0.0 p.0.1 c.0 (sounds ts p.0 p.1) c.1 in
         let z = some_is (p.0.0, c.0.1) s.0 c.2 in
         let y = some_is (Some s.0.0, s.0.1) x s.2 in
-        subst (λ (y : Option Stmt × Pieces). Reads (head_first (option_map stmt_shape y.0)) ts y.1 × (is_first (option_map stmt_shape y.0) ≡ true)) y
-        (subst (λ (y : Stmt × Pieces). Reads (stmt_shape y.0).spelling ts y.1 × ((is_head (stmt_shape y.0).form && (stmt_shape y.0).proper) ≡ true)) z r)
+        subst (λ (y : Option Stmt × Terminals). Reads (head_first (option_map stmt_shape y.0)) ts y.1 × (is_first (option_map stmt_shape y.0) ≡ true)) y
+        (subst (λ (y : Stmt × Terminals). Reads (stmt_shape y.0).spelling ts y.1 × ((is_head (stmt_shape y.0).form && (stmt_shape y.0).proper) ≡ true)) z r)
 
     by_line : (b : Bool) → (before (cond b (declare_at I ts) (simple_at E ts)) semicolon >>= λ s. Some (Some s.0, s.1)) ≡ Some x → Reads (head_first (option_map stmt_shape x.0)) ts x.1 × (is_first (option_map stmt_shape x.0) ≡ true)
     by_line true q = found_line declares refl (declare_at I) (declare_sound I inits) q
     by_line false q = found_line simple refl (simple_at E) (simple_sound E sound) q
 
-value_sound : (E : Reader) → Sound E → (ts : Pieces) (x : Option Expr × Pieces) → value_at E ts ≡ Some x → (is_test x.0 ≡ true) × ((ms : Spelling) (rest : Pieces) → Reads ms x.1 rest → Reads (head_test x.0 ++ put_mark mark.Semicolon ms) ts rest)
+value_sound : (E : Reader) → Sound E → (ts : Terminals) (x : Option Expr × Terminals) → value_at E ts ≡ Some x → (is_test x.0 ≡ true) × ((ms : Spelling) (rest : Terminals) → Reads ms x.1 rest → Reads (head_test x.0 ++ put_mark mark.Semicolon ms) ts rest)
 unfolding value_at
 value_sound E sound ts x e =
     elim (found_ok (after semicolon ts) (λ o. Some (None, o.1)) (E 1 ts >>= λ e. after semicolon e.1 >>= λ c. Some (Some e.0, c.1)) (Some x) e) [
       | inr h ↦
           let z = some_is (None, h.0.1) x h.2 in
-          subst (λ (y : Option Expr × Pieces). (is_test y.0 ≡ true) × ((ms : Spelling) (rest : Pieces) → Reads ms y.1 rest → Reads (head_test y.0 ++ put_mark mark.Semicolon ms) ts rest)) z
+          subst (λ (y : Option Expr × Terminals). (is_test y.0 ≡ true) × ((ms : Spelling) (rest : Terminals) → Reads ms y.1 rest → Reads (head_test y.0 ++ put_mark mark.Semicolon ms) ts rest)) z
           (refl, λ ms rest r. found_sound semicolon [] ms ts rest h.0 h.1 tt r)
       | inl h ↦
           let v = bind_some (E 1 ts) (λ e. after semicolon e.1 >>= λ c. Some (Some e.0, c.1)) x h.1 in
           let c = bind_some (after semicolon v.0.1) (λ c. Some (Some v.0.0, c.1)) x v.2 in
           let w = sound 1 ts v.0 (omega arith) (omega arith) v.1 in
           let z = some_is (Some v.0.0, c.0.1) x c.2 in
-          subst (λ (y : Option Expr × Pieces). (is_test y.0 ≡ true) × ((ms : Spelling) (rest : Pieces) → Reads ms y.1 rest → Reads (head_test y.0 ++ put_mark mark.Semicolon ms) ts rest)) z
+          subst (λ (y : Option Expr × Terminals). (is_test y.0 ≡ true) × ((ms : Spelling) (rest : Terminals) → Reads ms y.1 rest → Reads (head_test y.0 ++ put_mark mark.Semicolon ms) ts rest)) z
           (w.left.proper, λ ms rest r. reads_append (shape v.0.0).spelling _ ts v.0.1 rest w.left.reads (found_sound semicolon [] ms v.0.1 rest c.0 c.1 tt r))
     ]
 
-next_sound : (E : Reader) → Sound E → (ts : Pieces) (x : Option Stmt × Pieces) → next_at E ts ≡ Some x → (is_next (option_map stmt_shape x.0) ≡ true) × ((ms : Spelling) (rest : Pieces) → Reads ms x.1 rest → Reads (head_next (option_map stmt_shape x.0) ++ put_mark mark.CloseParen ms) ts rest)
+next_sound : (E : Reader) → Sound E → (ts : Terminals) (x : Option Stmt × Terminals) → next_at E ts ≡ Some x → (is_next (option_map stmt_shape x.0) ≡ true) × ((ms : Spelling) (rest : Terminals) → Reads ms x.1 rest → Reads (head_next (option_map stmt_shape x.0) ++ put_mark mark.CloseParen ms) ts rest)
 unfolding next_at
 next_sound E sound ts x e =
     elim (found_ok (after close ts) (λ o. Some (None, o.1)) (before (simple_at E ts) close >>= λ s. Some (Some s.0, s.1)) (Some x) e) [
       | inr h ↦
           let z = some_is (None, h.0.1) x h.2 in
-          subst (λ (y : Option Stmt × Pieces). (is_next (option_map stmt_shape y.0) ≡ true) × ((ms : Spelling) (rest : Pieces) → Reads ms y.1 rest → Reads (head_next (option_map stmt_shape y.0) ++ put_mark mark.CloseParen ms) ts rest)) z
+          subst (λ (y : Option Stmt × Terminals). (is_next (option_map stmt_shape y.0) ≡ true) × ((ms : Spelling) (rest : Terminals) → Reads ms y.1 rest → Reads (head_next (option_map stmt_shape y.0) ++ put_mark mark.CloseParen ms) ts rest)) z
           (refl, λ ms rest r. found_sound close [] ms ts rest h.0 h.1 tt r)
       | inl h ↦
           let s = bind_some (before (simple_at E ts) close) (λ s. Some (Some s.0, s.1)) x h.1 in
@@ -457,9 +457,9 @@ next_sound E sound ts x e =
           let l = simple_sound E sound ts p.0 p.1 in
           let z = some_is (p.0.0, c.0.1) s.0 c.2 in
           let y = some_is (Some s.0.0, s.0.1) x s.2 in
-          subst (λ (y : Option Stmt × Pieces). (is_next (option_map stmt_shape y.0) ≡ true) × ((ms : Spelling) (rest : Pieces) → Reads ms y.1 rest → Reads (head_next (option_map stmt_shape y.0) ++ put_mark mark.CloseParen ms) ts rest)) y
-          (subst (λ (y : Stmt × Pieces). ((is_simple (stmt_shape y.0).form && (stmt_shape y.0).proper) ≡ true) × ((ms : Spelling) (rest : Pieces) → Reads ms y.1 rest → Reads ((stmt_shape y.0).bare ++ put_mark mark.CloseParen ms) ts rest)) z
-          (subst (λ (y : StmtShape). ((is_simple y.form && y.proper) ≡ true) × ((ms : Spelling) (rest : Pieces) → Reads ms c.0.1 rest → Reads (y.bare ++ put_mark mark.CloseParen ms) ts rest)) (sym l.is)
+          subst (λ (y : Option Stmt × Terminals). (is_next (option_map stmt_shape y.0) ≡ true) × ((ms : Spelling) (rest : Terminals) → Reads ms y.1 rest → Reads (head_next (option_map stmt_shape y.0) ++ put_mark mark.CloseParen ms) ts rest)) y
+          (subst (λ (y : Stmt × Terminals). ((is_simple (stmt_shape y.0).form && (stmt_shape y.0).proper) ≡ true) × ((ms : Spelling) (rest : Terminals) → Reads ms y.1 rest → Reads ((stmt_shape y.0).bare ++ put_mark mark.CloseParen ms) ts rest)) z
+          (subst (λ (y : StmtShape). ((is_simple y.form && y.proper) ≡ true) × ((ms : Spelling) (rest : Terminals) → Reads ms c.0.1 rest → Reads (y.bare ++ put_mark mark.CloseParen ms) ts rest)) (sym l.is)
           (refl, λ ms rest r. reads_append l.bare _ ts p.0.1 rest l.reads (found_sound close [] ms p.0.1 rest c.0 c.1 tt r))))
     ]
 
@@ -475,7 +475,7 @@ for_is (Some a) b None s line second = refl
 for_is None b (Some c) s line second = refl
 for_is (Some a) b (Some c) s line second = refl
 
-for_sound : (E : Reader) → Sound E → (I : InitReader) → InitSound I → (S : StmtReader) → StmtSound S → (start : Pieces) (o : ℕ × Pieces) → Key key.For start o → (x : Stmt × Pieces) → for_at S E I o.0 o.1 ≡ Some x → Part x.0 start x.1
+for_sound : (E : Reader) → Sound E → (I : InitReader) → InitSound I → (S : StmtReader) → StmtSound S → (start : Terminals) (o : ℕ × Terminals) → Key key.For start o → (x : Stmt × Terminals) → for_at S E I o.0 o.1 ≡ Some x → Part x.0 start x.1
 unfolding for_at
 for_sound E sound I inits S both start o begin x e =
     let l = o.0 in
@@ -498,34 +498,34 @@ for_sound E sound I inits S both start o begin x e =
     (found_sound opening [] (head_first (option_map stmt_shape a.0.0) ++ (head_test b.0.0 ++ put_mark mark.Semicolon (head_next (option_map stmt_shape c.0.0) ++ put_mark mark.CloseParen body))) o.1 s.0.1 g.0 g.1 tt
     (reads_append (head_first (option_map stmt_shape a.0.0)) (head_test b.0.0 ++ put_mark mark.Semicolon (head_next (option_map stmt_shape c.0.0) ++ put_mark mark.CloseParen body)) g.0.1 a.0.1 s.0.1 wa.0 second)) in
     let all_proper : (is_first (option_map stmt_shape a.0.0) && (is_test b.0.0 && (is_next (option_map stmt_shape c.0.0) && is_part (stmt_shape s.0.0)))) ≡ true = and_intro _ _ wa.1 (and_intro _ _ wb.0 (and_intro _ _ wc.0 (and_intro _ _ u.form u.stated.proper))) in
-    subst (λ (y : Stmt × Pieces). Part y.0 start y.1) z
+    subst (λ (y : Stmt × Terminals). Part y.0 start y.1) z
     (part_made l l (made.For a.0.0 b.0.0 c.0.0 s.0.0) (act.For a.0.0 b.0.0 c.0.0 s.0.0) start s.0.1 (outs-For a.0.0 b.0.0 c.0.0 s.0.0)
     (subst (λ (y : StmtShape). Reads y.spelling start s.0.1) (sym q) all_reads)
     (subst (λ (y : StmtShape). y.proper ≡ true) (sym q) all_proper)
     (subst (λ (y : StmtShape). is_statement y.form ≡ true) (sym q) refl)
     (subst (λ (y : StmtShape). y.dangling ≡ true → NoElse s.0.1) (sym q) u.stated.closed))
 
-return_made : (r : Option Expr) (l : ℕ) (start rest : Pieces) → Reads (key_on (l ∷ l ∷ []) key.Return (head_test r ++ put_mark mark.Semicolon [])) start rest → is_test r ≡ true → Part (stmt l l (made.Return r)) start rest
+return_made : (r : Option Expr) (l : ℕ) (start rest : Terminals) → Reads (key_on (l ∷ l ∷ []) key.Return (head_test r ++ put_mark mark.Semicolon [])) start rest → is_test r ≡ true → Part (stmt l l (made.Return r)) start rest
 return_made None l start rest reads p = part_made l l (made.Return None) (act.Return None) start rest (outs-Return None) reads refl refl (never rest)
 return_made (Some r) l start rest reads p = part_made l l (made.Return (Some r)) (act.Return (Some r)) start rest (outs-Return (Some r)) reads p refl (never rest)
 
-return_sound : (E : Reader) → Sound E → (start : Pieces) (o : ℕ × Pieces) → Key key.Return start o → (x : Stmt × Pieces) → return_at E o.0 o.1 ≡ Some x → Part x.0 start x.1
+return_sound : (E : Reader) → Sound E → (start : Terminals) (o : ℕ × Terminals) → Key key.Return start o → (x : Stmt × Terminals) → return_at E o.0 o.1 ≡ Some x → Part x.0 start x.1
 unfolding return_at
 return_sound E sound start o begin x e =
     let l = o.0 in
     let v = bind_some (value_at E o.1) (λ v. Some (stmt l l (made.Return v.0), v.1)) x e in
     let w = value_sound E sound o.1 v.0 v.1 in
     let z = some_is (stmt l l (made.Return v.0.0), v.0.1) x v.2 in
-    subst (λ (y : Stmt × Pieces). Part y.0 start y.1) z
+    subst (λ (y : Stmt × Terminals). Part y.0 start y.1) z
     (return_made v.0.0 l start v.0.1 (found_sound (fixed.Key key.Return) (l ∷ l ∷ []) (head_test v.0.0 ++ put_mark mark.Semicolon []) start v.0.1 o begin (refl, (refl, tt)) (w.1 [] v.0.1 refl)) w.0)
 
-jump_sound : (k : Keyword) (n : Act) (v : Act-F Act Stmt) → out-Act n ≡ v → ((l : ℕ) → act_step (stmt_shaped v) l l ≡ of_form other (key_on (l ∷ l ∷ []) k (put_mark mark.Semicolon [])) false true) → (start : Pieces) (o : ℕ × Pieces) → Key k start o → (x : Stmt × Pieces) → jump_at n o.0 o.1 ≡ Some x → Part x.0 start x.1
+jump_sound : (k : Keyword) (n : Act) (v : Act-F Act Stmt) → out-Act n ≡ v → ((l : ℕ) → act_step (stmt_shaped v) l l ≡ of_form other (key_on (l ∷ l ∷ []) k (put_mark mark.Semicolon [])) false true) → (start : Terminals) (o : ℕ × Terminals) → Key k start o → (x : Stmt × Terminals) → jump_at n o.0 o.1 ≡ Some x → Part x.0 start x.1
 unfolding jump_at
 jump_sound k n v out step start o begin x e =
     let l = o.0 in
     let c = bind_some (after semicolon o.1) (λ c. Some (stmt l l n, c.1)) x e in
     let z = some_is (stmt l l n, c.0.1) x c.2 in
-    subst (λ (y : Stmt × Pieces). Part y.0 start y.1) z
+    subst (λ (y : Stmt × Terminals). Part y.0 start y.1) z
     (part_made l l n v start c.0.1 out
     (subst (λ (y : StmtShape). Reads y.spelling start c.0.1) (sym (step l)) (found_sound (fixed.Key k) (l ∷ l ∷ []) (put_mark mark.Semicolon []) start c.0.1 o begin (refl, (refl, tt)) (found_sound semicolon [] [] o.1 c.0.1 c.0 c.1 tt refl)))
     (subst (λ (y : StmtShape). y.proper ≡ true) (sym (step l)) refl)
@@ -535,7 +535,7 @@ jump_sound k n v out step start o begin x e =
 -- ---- blocks
 
 -- the statements that were read
-pub block_sound : (L : StmtReader) → ListedSound L → (m : ℕ) (done : List Stmt) (ts : Pieces) (x : List Stmt × Pieces) → block_at L m done ts ≡ Some x → (ss : List Stmt) × (x.0 ≡ done ++ ss) × Reads (statements (map stmt_shape ss)) ts x.1 × (all_stmts (map stmt_shape ss) ≡ true)
+pub block_sound : (L : StmtReader) → ListedSound L → (m : ℕ) (done : List Stmt) (ts : Terminals) (x : List Stmt × Terminals) → block_at L m done ts ≡ Some x → (ss : List Stmt) × (x.0 ≡ done ++ ss) × Reads (statements (map stmt_shape ss)) ts x.1 × (all_stmts (map stmt_shape ss) ≡ true)
 unfolding block_at
 block_sound L both zero done ts x e = absurd cc
 block_sound L both (suc m) done ts x e =
@@ -552,40 +552,40 @@ block_sound L both (suc m) done ts x e =
       | inr h ↦
           let z = some_is (done, h.0.1) x h.2 in (
             [],
-            sym (ap (λ (y : List Stmt × Pieces). y.0) z) ∙ sym (append-nil done),
-            found_sound close_brace [] [] ts x.1 h.0 h.1 tt (ap (λ (y : List Stmt × Pieces). y.1) z),
+            sym (ap (λ (y : List Stmt × Terminals). y.0) z) ∙ sym (append-nil done),
+            found_sound close_brace [] [] ts x.1 h.0 h.1 tt (ap (λ (y : List Stmt × Terminals). y.1) z),
             refl,
           )
     ]
 
-whole_block : (L : StmtReader) → ListedSound L → (start : Pieces) (o : ℕ × Pieces) → after open_brace start ≡ Some o → (x : Stmt × Pieces) → (block_at L (suc (length o.1)) [] o.1 >>= λ b. Some (stmt o.0 o.0 (made.Block b.0), b.1)) ≡ Some x → Part x.0 start x.1
+whole_block : (L : StmtReader) → ListedSound L → (start : Terminals) (o : ℕ × Terminals) → after open_brace start ≡ Some o → (x : Stmt × Terminals) → (block_at L (suc (length o.1)) [] o.1 >>= λ b. Some (stmt o.0 o.0 (made.Block b.0), b.1)) ≡ Some x → Part x.0 start x.1
 whole_block L both start o begin x e =
     let l = o.0 in
     let b = bind_some (block_at L (suc (length o.1)) [] o.1) (λ b. Some (stmt l l (made.Block b.0), b.1)) x e in
     let r = block_sound L both (suc (length o.1)) [] o.1 b.0 b.1 in
     let z = some_is (stmt l l (made.Block b.0.0), b.0.1) x b.2 in
-    subst (λ (y : Stmt × Pieces). Part y.0 start y.1) z
+    subst (λ (y : Stmt × Terminals). Part y.0 start y.1) z
     (subst (λ (y : List Stmt). Part (stmt l l (made.Block y)) start b.0.1) (sym r.1)
     (part_made l l (made.Block r.0) (act.Block r.0) start b.0.1 (outs-Block r.0) (found_sound open_brace (l ∷ l ∷ []) (statements (map stmt_shape r.0)) start b.0.1 o begin (refl, (refl, tt)) r.2) r.3 refl (never b.0.1)))
 
-before_sound : (form : Form) (S : StmtReader) → LineSound form S → (ts : Pieces) (x : Stmt × Pieces) → before (S ts) semicolon ≡ Some x → Stated x.0 ts x.1 × ((stmt_shape x.0).form ≡ form)
+before_sound : (form : Form) (S : StmtReader) → LineSound form S → (ts : Terminals) (x : Stmt × Terminals) → before (S ts) semicolon ≡ Some x → Stated x.0 ts x.1 × ((stmt_shape x.0).form ≡ form)
 before_sound form S sounds ts x e =
     let p = bind_some (S ts) (λ s. after semicolon s.1 >>= λ c. Some (s.0, c.1)) x e in
     let c = bind_some (after semicolon p.0.1) (λ c. Some (p.0.0, c.1)) x p.2 in
     let l = sounds ts p.0 p.1 in
     let z = some_is (p.0.0, c.0.1) x c.2 in
-    subst (λ (y : Stmt × Pieces). Stated y.0 ts y.1 × ((stmt_shape y.0).form ≡ form)) z (lined_stated form p.0.0 ts p.0.1 c.0 l c.1, lined_form form p.0.0 ts p.0.1 l)
+    subst (λ (y : Stmt × Terminals). Stated y.0 ts y.1 × ((stmt_shape y.0).form ≡ form)) z (lined_stated form p.0.0 ts p.0.1 c.0 l c.1, lined_form form p.0.0 ts p.0.1 l)
 
-listed_by : (S : StmtReader) → StmtSound S → (I : InitReader) → InitSound I → (b : Bool) (ts : Pieces) (x : Stmt × Pieces) → cond b (before (declare_at I ts) semicolon) (S ts) ≡ Some x → Stated x.0 ts x.1
+listed_by : (S : StmtReader) → StmtSound S → (I : InitReader) → InitSound I → (b : Bool) (ts : Terminals) (x : Stmt × Terminals) → cond b (before (declare_at I ts) semicolon) (S ts) ≡ Some x → Stated x.0 ts x.1
 listed_by S both I inits true ts x e = (before_sound declares (declare_at I) (declare_sound I inits) ts x e).0
 listed_by S both I inits false ts x e = (both ts x e).stated
 
-listed_sound : (S : StmtReader) → StmtSound S → (I : InitReader) → InitSound I → (t : Piece) (ts : Pieces) (s : Sign) → t.what ≡ s → (x : Stmt × Pieces) → listed_step S I t.line s (t ∷ ts) ts ≡ Some x → Stated x.0 (t ∷ ts) x.1
+listed_sound : (S : StmtReader) → StmtSound S → (I : InitReader) → InitSound I → (t : Terminal) (ts : Terminals) (s : Sign) → t.what ≡ s → (x : Stmt × Terminals) → listed_step S I t.line s (t ∷ ts) ts ≡ Some x → Stated x.0 (t ∷ ts) x.1
 listed_sound S both I inits t ts (sign.Cle p) same x e =
     let l = t.line in
     let z = some_is (stmt l l (made.Cle p), ts) x e in
     let q = stmt_made l l (made.Cle p) (act.Cle p) (outs-Cle p) in
-    subst (λ (y : Stmt × Pieces). Stated y.0 (t ∷ ts) y.1) z (record {
+    subst (λ (y : Stmt × Terminals). Stated y.0 (t ∷ ts) y.1) z (record {
       reads = subst (λ (y : StmtShape). Reads y.spelling (t ∷ ts) ts) (sym q) (same, (refl, (refl, tt)), refl);
       proper = subst (λ (y : StmtShape). y.proper ≡ true) (sym q) refl;
       closed = subst (λ (y : StmtShape). y.dangling ≡ true → NoElse ts) (sym q) (never ts);
@@ -599,7 +599,7 @@ listed_of_sound S both I inits (t ∷ ts) x e = listed_sound S both I inits t ts
 
 -- ---- each head
 
--- the piece of a head
+-- the terminal of a head
 abbrev head_fixed : Head → Fixed
 head_fixed head.Empty = semicolon
 head_fixed head.Block = open_brace
@@ -628,17 +628,17 @@ sign_is_head (sign.Key key.Break) = refl
 sign_is_head (sign.Key key.Continue) = refl
 sign_is_head _ = tt
 
--- a fixed piece at the front is found
-front : (f : Fixed) (t : Piece) (ts : Pieces) → t.what ≡ fixed_sign f → after f (t ∷ ts) ≡ Some (t.line, ts)
+-- a fixed terminal at the front is found
+front : (f : Fixed) (t : Terminal) (ts : Terminals) → t.what ≡ fixed_sign f → after f (t ∷ ts) ≡ Some (t.line, ts)
 unfolding after
 front f t ts e = let g : is_fixed f t.what ≡ true = rw e (fixed_self f) in rw g refl
 
-headed_sound : (E : Reader) → Sound E → (I : InitReader) → InitSound I → (S : StmtReader) → StmtSound S → (t : Piece) (ts : Pieces) (h : Head) → IsHead t.what h → (x : Stmt × Pieces) → headed S (listed_of S I) E I h t.line (t ∷ ts) ts ≡ Some x → Part x.0 (t ∷ ts) x.1
+headed_sound : (E : Reader) → Sound E → (I : InitReader) → InitSound I → (S : StmtReader) → StmtSound S → (t : Terminal) (ts : Terminals) (h : Head) → IsHead t.what h → (x : Stmt × Terminals) → headed S (listed_of S I) E I h t.line (t ∷ ts) ts ≡ Some x → Part x.0 (t ∷ ts) x.1
 unfolding headed
 headed_sound E sound I inits S both t ts head.Empty same x e =
     let l = t.line in
     let z = some_is (stmt l l made.Empty, ts) x e in
-    subst (λ (y : Stmt × Pieces). Part y.0 (t ∷ ts) y.1) z (part_made l l made.Empty act.Empty (t ∷ ts) ts outs-Empty (same, (refl, (refl, tt)), refl) refl refl (never ts))
+    subst (λ (y : Stmt × Terminals). Part y.0 (t ∷ ts) y.1) z (part_made l l made.Empty act.Empty (t ∷ ts) ts outs-Empty (same, (refl, (refl, tt)), refl) refl refl (never ts))
 headed_sound E sound I inits S both t ts head.Block same x e = whole_block (listed_of S I) (listed_of_sound S both I inits) (t ∷ ts) (t.line, ts) (front open_brace t ts same) x e
 headed_sound E sound I inits S both t ts head.If same x e = if_sound E sound S both (t ∷ ts) (t.line, ts) (front (fixed.Key key.If) t ts same) x e
 headed_sound E sound I inits S both t ts head.While same x e = while_sound E sound S both (t ∷ ts) (t.line, ts) (front (fixed.Key key.While) t ts same) x e

@@ -16,7 +16,7 @@ use Rattle.cl_tree.specs.declared.tree.Act.TheVariants as made
 use Rattle.cl_tree.specs.Statements.{is_call}
 use Rattle.cl_parse_expr.specs.declared.cursor.Fixed.{Fixed}
 use Rattle.cl_parse_expr.specs.declared.cursor.Fixed.TheVariants as fixed
-use Rattle.cl_parse_expr.specs.Cursor.{◌>>=◌, Pieces, found, after, line_of}
+use Rattle.cl_parse_expr.specs.Cursor.{◌>>=◌, Terminals, found, after, line_of}
 use Rattle.cl_parse_expr.specs.Reading.{Reader, opening, close}
 use Rattle.cl_parse_stmt.specs.declared.simple.Tail.{Tail}
 use Rattle.cl_parse_stmt.specs.declared.simple.Tail.TheVariants as tail
@@ -25,14 +25,14 @@ use Rattle.cl_parse_stmt.specs.declared.stmt.Head.TheVariants as head
 use Rattle.cl_parse_stmt.specs.Declaring.{InitReader, semicolon, close_brace, declaration_from}
 
 abbrev pub StmtReader : Type 0
-StmtReader = Pieces → Option (Stmt × Pieces)
+StmtReader = Terminals → Option (Stmt × Terminals)
 
 abbrev pub stmt : ℕ → ℕ → Act → Stmt
 stmt line second act = record { line = line; second = second; node = act }
 
 -- ---- simple statements, without their `;`
 
--- what a piece makes of the expression before it
+-- what a terminal makes of the expression before it
 abbrev pub mark_tail : Mark → Tail
 mark_tail mark.Assign = tail.Assign None
 mark_tail mark.PlusAssign = tail.Assign (Some binary.Add)
@@ -53,8 +53,8 @@ abbrev pub tail_of : Sign → Tail
 tail_of (sign.Mark m) = mark_tail m
 tail_of _ = tail.Nothing
 
--- with the line of the piece, and what follows it
-unfoldable pub tail_at : Pieces → Tail × ℕ × Pieces
+-- with the line of the terminal, and what follows it
+unfoldable pub tail_at : Terminals → Tail × ℕ × Terminals
 tail_at [] = (tail.Nothing, 0, [])
 tail_at (t ∷ ts) = (tail_of t.what, t.line, ts)
 
@@ -68,18 +68,18 @@ unary_node _ = true
 unfoldable pub is_unary : Expr → Bool
 is_unary e = unary_node (out-Node e.node)
 
-unfoldable pub ended_by : Reader → Expr → Pieces → Tail → ℕ → Pieces → Option (Stmt × Pieces)
+unfoldable pub ended_by : Reader → Expr → Terminals → Tail → ℕ → Terminals → Option (Stmt × Terminals)
 ended_by E a here tail.Nothing line next = if is_call a then Some (stmt a.line a.line (made.Call a), here) else None
 ended_by E a here (tail.Assign op) line next = if is_unary a then (E 1 next >>= λ b. Some (stmt a.line line (made.Set op a b.0), b.1)) else None
 ended_by E a here (tail.Bump up) line next = if is_unary a then Some (stmt a.line line (made.Bump up false a), next) else None
 
-unfoldable pub from_place : Reader → Expr × Pieces → Option (Stmt × Pieces)
+unfoldable pub from_place : Reader → Expr × Terminals → Option (Stmt × Terminals)
 from_place E a = ended_by E a.0 a.1 (tail_at a.1).0 (tail_at a.1).1 (tail_at a.1).2
 
-unfoldable pub bumped : Reader → Bool → ℕ → Pieces → Option (Stmt × Pieces)
+unfoldable pub bumped : Reader → Bool → ℕ → Terminals → Option (Stmt × Terminals)
 bumped E up line ts = E 12 ts >>= λ a. if is_unary a.0 then Some (stmt line line (made.Bump up true a.0), a.1) else None
 
-unfoldable pub simple_at : Reader → Pieces → Option (Stmt × Pieces)
+unfoldable pub simple_at : Reader → Terminals → Option (Stmt × Terminals)
 simple_at E ts =
     found (after (fixed.Mark mark.PlusPlus) ts) (λ x. bumped E true x.0 x.1)
     (found (after (fixed.Mark mark.MinusMinus) ts) (λ x. bumped E false x.0 x.1)
@@ -88,11 +88,11 @@ simple_at E ts =
 -- ---- parts of statements
 
 -- an expression in parentheses
-unfoldable pub test_at : Reader → Pieces → Option (Expr × Pieces)
+unfoldable pub test_at : Reader → Terminals → Option (Expr × Terminals)
 test_at E ts = after opening ts >>= λ o. E 1 o.1 >>= λ c. after close c.1 >>= λ d. Some (c.0, d.1)
 
 -- a declaration as a statement, without its `;`
-unfoldable pub declare_at : InitReader → Pieces → Option (Stmt × Pieces)
+unfoldable pub declare_at : InitReader → Terminals → Option (Stmt × Terminals)
 declare_at I ts =
     found (after (fixed.Key key.Static) ts) (λ x. declaration_from I true x.0 x.1 >>= λ d. Some (stmt x.0 x.0 (made.Declare d.0), d.1))
     (declaration_from I false (line_of ts) ts >>= λ d. Some (stmt (line_of ts) (line_of ts) (made.Declare d.0), d.1))
@@ -109,15 +109,15 @@ declares_sign sign.Real = true
 declares_sign (sign.Key k) = is_declaring_key k
 declares_sign _ = false
 
-unfoldable pub declares_at : Pieces → Bool
+unfoldable pub declares_at : Terminals → Bool
 declares_at [] = false
 declares_at (t ∷ ts) = declares_sign t.what
 
 -- a simple statement or a declaration
-unfoldable pub line_at : Reader → InitReader → Pieces → Option (Stmt × Pieces)
+unfoldable pub line_at : Reader → InitReader → Terminals → Option (Stmt × Terminals)
 line_at E I ts = if declares_at ts then declare_at I ts else simple_at E ts
 
-abbrev pub before : Option (Stmt × Pieces) → Fixed → Option (Stmt × Pieces)
+abbrev pub before : Option (Stmt × Terminals) → Fixed → Option (Stmt × Terminals)
 before r f = r >>= λ s. after f s.1 >>= λ c. Some (s.0, c.1)
 
 -- ---- statements
@@ -132,14 +132,14 @@ while_at S E line ts = test_at E ts >>= λ c. S c.1 >>= λ s. Some (stmt line li
 unfoldable pub do_at : StmtReader → Reader → ℕ → StmtReader
 do_at S E line ts = S ts >>= λ s. after (fixed.Key key.While) s.1 >>= λ w. test_at E w.1 >>= λ c. after semicolon c.1 >>= λ d. Some (stmt line line (made.DoWhile s.0 c.0), d.1)
 
-unfoldable pub first_at : Reader → InitReader → Pieces → Option (Option Stmt × Pieces)
+unfoldable pub first_at : Reader → InitReader → Terminals → Option (Option Stmt × Terminals)
 first_at E I ts = found (after semicolon ts) (λ x. Some (None, x.1)) (before (line_at E I ts) semicolon >>= λ s. Some (Some s.0, s.1))
 
 -- an expression, if there is one, and its `;`
-unfoldable pub value_at : Reader → Pieces → Option (Option Expr × Pieces)
+unfoldable pub value_at : Reader → Terminals → Option (Option Expr × Terminals)
 value_at E ts = found (after semicolon ts) (λ x. Some (None, x.1)) (E 1 ts >>= λ e. after semicolon e.1 >>= λ c. Some (Some e.0, c.1))
 
-unfoldable pub next_at : Reader → Pieces → Option (Option Stmt × Pieces)
+unfoldable pub next_at : Reader → Terminals → Option (Option Stmt × Terminals)
 next_at E ts = found (after close ts) (λ x. Some (None, x.1)) (before (simple_at E ts) close >>= λ s. Some (Some s.0, s.1))
 
 unfoldable pub for_at : StmtReader → Reader → InitReader → ℕ → StmtReader
@@ -165,11 +165,11 @@ sign_head (sign.Key key.Continue) = head.Continue
 sign_head _ = head.Simple
 
 -- the part of a block behind its `{`, or behind some of its statements; L reads one of them
-unfoldable pub block_at : StmtReader → ℕ → List Stmt → Pieces → Option (List Stmt × Pieces)
+unfoldable pub block_at : StmtReader → ℕ → List Stmt → Terminals → Option (List Stmt × Terminals)
 block_at L zero done ts = None
 block_at L (suc m) done ts = found (after close_brace ts) (λ c. Some (done, c.1)) (L ts >>= λ r. block_at L m (done ++ r.0 ∷ []) r.1)
 
-unfoldable pub headed : StmtReader → StmtReader → Reader → InitReader → Head → ℕ → Pieces → Pieces → Option (Stmt × Pieces)
+unfoldable pub headed : StmtReader → StmtReader → Reader → InitReader → Head → ℕ → Terminals → Terminals → Option (Stmt × Terminals)
 headed S L E I head.Empty line here ts = Some (stmt line line made.Empty, ts)
 headed S L E I head.Block line here ts = block_at L (suc (length ts)) [] ts >>= λ b. Some (stmt line line (made.Block b.0), b.1)
 headed S L E I head.If line here ts = if_at S E line ts
@@ -186,8 +186,8 @@ unfoldable pub stmt_of : StmtReader → StmtReader → Reader → InitReader →
 stmt_of S L E I [] = None
 stmt_of S L E I (t ∷ ts) = headed S L E I (sign_head t.what) t.line (t ∷ ts) ts
 
--- one of a block's: also a declaration or a directive
-abbrev pub listed_step : StmtReader → InitReader → ℕ → Sign → Pieces → Pieces → Option (Stmt × Pieces)
+-- one of a block's: also a declaration or a pragma
+abbrev pub listed_step : StmtReader → InitReader → ℕ → Sign → Terminals → Terminals → Option (Stmt × Terminals)
 listed_step S I line (sign.Cle p) here ts = Some (stmt line line (made.Cle p), ts)
 listed_step S I line _ here ts = if declares_at here then before (declare_at I here) semicolon else S here
 

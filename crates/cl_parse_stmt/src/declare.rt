@@ -11,8 +11,8 @@ use cl_parse_expr::cursor::{Fixed, after, wanted, wanted_name};
 use cl_parse_expr::expr::expr_at;
 use cl_parse_expr::stop::Stop;
 use cl_parse_expr::types::{base_at, pointers_at, second_at, type_of};
-use cl_pieces::comes::is_literal;
-use cl_tree::grammar::{Base, Piece, Sign};
+use cl_terminals::comes::is_literal;
+use cl_tree::grammar::{Base, Sign, Terminal};
 use cl_tree::token::Mark;
 use cl_tree::tree::{CType, Declaration, Declarator, Init};
 use sqlite_items::{Boxed, Items};
@@ -20,10 +20,10 @@ use std::alloc::Global;
 
 /// The size of an array.
 #[tactic(auto, unfolding(crate::specs::Declaring::size_at))]
-fn size_at(pieces: &[Piece]) -> Result<(u64, &[Piece]), Stop>
-    ensures { Gives (λ x. (x.0, x.1.now)) result (size_at pieces.now) }
+fn size_at(terminals: &[Terminal]) -> Result<(u64, &[Terminal]), Stop>
+    ensures { Gives (λ x. (x.0, x.1.now)) result (size_at terminals.now) }
 {
-    let [first, rest @ ..] = pieces else {
+    let [first, rest @ ..] = terminals else {
         return Err(Stop::Unread)
     };
     match &first.what {
@@ -39,23 +39,23 @@ fn size_at(pieces: &[Piece]) -> Result<(u64, &[Piece]), Stop>
 }
 
 #[tactic(auto, unfolding(crate::specs::Declaring::dims_at), using(crate::proofs::Turns::dims_go))]
-fn dims_at(alloc: Global, start: &[Piece]) -> Result<(Items<u64>, &[Piece]), Stop>
+fn dims_at(alloc: Global, start: &[Terminal]) -> Result<(Items<u64>, &[Terminal]), Stop>
     ensures { Gives (λ x. (x.0, x.1.now)) result (dims_at (length start.now) [] start.now) }
 {
     let mut done = Items::new(alloc);
-    let mut pieces = start;
+    let mut terminals = start;
     let mut turns = start.len();
     'dims: while turns != 0 {
-        let Some((_, rest)) = after(Fixed::Mark(Mark::OpenBracket), pieces) else {
-            return Ok((done, pieces));
+        let Some((_, rest)) = after(Fixed::Mark(Mark::OpenBracket), terminals) else {
+            return Ok((done, terminals));
         };
         let (size, rest) = size_at(rest)?;
         let (_, rest) = wanted(Fixed::Mark(Mark::CloseBracket), rest)?;
         done.push(size)?;
-        pieces = rest;
+        terminals = rest;
         turns -= 1;
     }
-    Ok((done, pieces))
+    Ok((done, terminals))
 }
 
 #[tactic(auto, using(crate::proofs::Turns::arrayed_last))]
@@ -71,30 +71,34 @@ fn arrayed(alloc: Global, plain: Boxed<CType>, dims: Items<u64>) -> Result<Boxed
 }
 
 #[tactic(auto, unfolding(crate::specs::Declaring::one_init))]
-fn one_init(alloc: Global, room: usize, pieces: &[Piece]) -> Result<(Boxed<Init>, &[Piece]), Stop>
-    ensures { Gives (λ x. (x.0, x.1.now)) result (one_init (expr_at room) pieces.now) }
+fn one_init(
+    alloc: Global,
+    room: usize,
+    terminals: &[Terminal],
+) -> Result<(Boxed<Init>, &[Terminal]), Stop>
+    ensures { Gives (λ x. (x.0, x.1.now)) result (one_init (expr_at room) terminals.now) }
 {
-    let (e, rest) = expr_at(alloc, room, 1, pieces)?;
+    let (e, rest) = expr_at(alloc, room, 1, terminals)?;
     Ok((Boxed::new(alloc, Init::One(e.into_inner()))?, rest))
 }
 
-/// An initialiser, and the pieces after it.
+/// An initialiser, and the terminals after it.
 #[cycle(init)]
 #[tactic(auto, unfolding(crate::specs::Declaring::init_at))]
 fn init_at(
     alloc: Global,
     room: usize,
     deep: usize,
-    pieces: &[Piece],
-) -> Result<(Boxed<Init>, &[Piece]), Stop>
-    ensures { Gives (λ x. (x.0, x.1.now)) result (init_at deep (expr_at room) pieces.now) }
+    terminals: &[Terminal],
+) -> Result<(Boxed<Init>, &[Terminal]), Stop>
+    ensures { Gives (λ x. (x.0, x.1.now)) result (init_at deep (expr_at room) terminals.now) }
 {
     if deep == 0 {
         return Err(Stop::Unread);
     }
-    match after(Fixed::Mark(Mark::OpenBrace), pieces) {
+    match after(Fixed::Mark(Mark::OpenBrace), terminals) {
         Some((_, rest)) => braced_at(alloc, room, deep - 1, rest),
-        None => one_init(alloc, room, pieces),
+        None => one_init(alloc, room, terminals),
     }
 }
 
@@ -104,11 +108,11 @@ fn braced_at(
     alloc: Global,
     room: usize,
     deep: usize,
-    pieces: &[Piece],
-) -> Result<(Boxed<Init>, &[Piece]), Stop>
-    ensures { Gives (λ x. (x.0, x.1.now)) result (braced_at (init_at deep (expr_at room)) pieces.now) }
+    terminals: &[Terminal],
+) -> Result<(Boxed<Init>, &[Terminal]), Stop>
+    ensures { Gives (λ x. (x.0, x.1.now)) result (braced_at (init_at deep (expr_at room)) terminals.now) }
 {
-    let (first, rest) = init_at(alloc, room, deep, pieces)?;
+    let (first, rest) = init_at(alloc, room, deep, terminals)?;
     let mut parts = Items::new(alloc);
     parts.push(first.into_inner())?;
     let (parts, rest) = more_inits(alloc, room, deep, parts, rest)?;
@@ -122,23 +126,23 @@ fn more_inits(
     room: usize,
     deep: usize,
     parts: Items<Init>,
-    start: &[Piece],
-) -> Result<(Items<Init>, &[Piece]), Stop>
+    start: &[Terminal],
+) -> Result<(Items<Init>, &[Terminal]), Stop>
     ensures { Gives (λ x. (x.0, x.1.now)) result (more_inits (init_at deep (expr_at room)) (length start.now) parts start.now) }
 {
     let mut done = parts;
-    let mut pieces = start;
+    let mut terminals = start;
     let mut turns = start.len();
     'parts: while turns != 0 {
-        match after(Fixed::Mark(Mark::Comma), pieces) {
+        match after(Fixed::Mark(Mark::Comma), terminals) {
             None => {
-                let (_, rest) = wanted(Fixed::Mark(Mark::CloseBrace), pieces)?;
+                let (_, rest) = wanted(Fixed::Mark(Mark::CloseBrace), terminals)?;
                 return Ok((done, rest));
             }
             Some((_, rest)) => {
                 let (next, rest) = init_at(alloc, room, deep, rest)?;
                 done.push(next.into_inner())?;
-                pieces = rest;
+                terminals = rest;
             }
         }
         turns -= 1;
@@ -151,19 +155,19 @@ fn initialised(
     alloc: Global,
     room: usize,
     allowed: bool,
-    pieces: &[Piece],
-) -> Result<(Option<Boxed<Init>>, &[Piece]), Stop>
-    ensures { Gives (λ x. (x.0, x.1.now)) result (initialised allowed (init_at room (expr_at room)) pieces.now) }
+    terminals: &[Terminal],
+) -> Result<(Option<Boxed<Init>>, &[Terminal]), Stop>
+    ensures { Gives (λ x. (x.0, x.1.now)) result (initialised allowed (init_at room (expr_at room)) terminals.now) }
 {
     if !allowed {
-        return Ok((None, pieces));
+        return Ok((None, terminals));
     }
-    match after(Fixed::Mark(Mark::Assign), pieces) {
+    match after(Fixed::Mark(Mark::Assign), terminals) {
         Some((_, rest)) => {
             let (init, rest) = init_at(alloc, room, room, rest)?;
             Ok((Some(init), rest))
         }
-        None => Ok((None, pieces)),
+        None => Ok((None, terminals)),
     }
 }
 
@@ -208,17 +212,17 @@ fn name_from(
     allowed: bool,
     second: u32,
     plain: Boxed<CType>,
-    pieces: &[Piece],
-) -> Result<(Boxed<Declarator>, &[Piece]), Stop>
-    ensures { Gives (λ x. (x.0, x.1.now)) result (name_from allowed (init_at room (expr_at room)) second (plain, pieces.now)) }
+    terminals: &[Terminal],
+) -> Result<(Boxed<Declarator>, &[Terminal]), Stop>
+    ensures { Gives (λ x. (x.0, x.1.now)) result (name_from allowed (init_at room (expr_at room)) second (plain, terminals.now)) }
 {
-    let (name, line, rest) = wanted_name(pieces)?;
+    let (name, line, rest) = wanted_name(terminals)?;
     let (dims, rest) = dims_at(alloc, rest)?;
     let (init, rest) = initialised(alloc, room, allowed, rest)?;
     Ok((named(alloc, plain, dims, name, line, second, init)?, rest))
 }
 
-/// One name of a declaration with this base, and the pieces after it. The lines of a floating base and of
+/// One name of a declaration with this base, and the terminals after it. The lines of a floating base and of
 /// the first token of the declaration are given.
 #[tactic(auto, unfolding(crate::specs::Declaring::declarator_at))]
 pub fn declarator_at<'a>(
@@ -228,13 +232,13 @@ pub fn declarator_at<'a>(
     base: &Base,
     floating: u32,
     first: u32,
-    pieces: &'a [Piece],
-) -> Result<(Boxed<Declarator>, &'a [Piece]), Stop>
-    ensures { Gives (λ x. (x.0, x.1.now)) result (declarator_at allowed (init_at room (expr_at room)) base.now floating first pieces.now) }
+    terminals: &'a [Terminal],
+) -> Result<(Boxed<Declarator>, &'a [Terminal]), Stop>
+    ensures { Gives (λ x. (x.0, x.1.now)) result (declarator_at allowed (init_at room (expr_at room)) base.now floating first terminals.now) }
 {
-    let second = second_at(base, floating, first, pieces);
+    let second = second_at(base, floating, first, terminals);
     let plain = type_of(alloc, base)?;
-    let (ctype, rest) = pointers_at(alloc, plain, pieces)?;
+    let (ctype, rest) = pointers_at(alloc, plain, terminals)?;
     name_from(alloc, room, allowed, second, ctype, rest)
 }
 
@@ -247,23 +251,23 @@ fn more_names<'a>(
     floating: u32,
     first: u32,
     names: Items<Declarator>,
-    start: &'a [Piece],
-) -> Result<(Items<Declarator>, &'a [Piece]), Stop>
+    start: &'a [Terminal],
+) -> Result<(Items<Declarator>, &'a [Terminal]), Stop>
     ensures { Gives (λ x. (x.0, x.1.now)) result (more_names allowed (init_at room (expr_at room)) base.now floating first (suc (length start.now)) names start.now) }
 {
     let mut done = names;
-    let mut pieces = start;
+    let mut terminals = start;
     let mut turns = start.len();
-    'names: while let Some((_, rest)) = after(Fixed::Mark(Mark::Comma), pieces) {
+    'names: while let Some((_, rest)) = after(Fixed::Mark(Mark::Comma), terminals) {
         let (next, rest) = declarator_at(alloc, room, allowed, base, floating, first, rest)?;
         done.push(next.into_inner())?;
-        pieces = rest;
+        terminals = rest;
         if turns == 0 {
             return Err(Stop::Unread);
         }
         turns -= 1;
     }
-    Ok((done, pieces))
+    Ok((done, terminals))
 }
 
 #[tactic(auto, unfolding(crate::specs::Declaring::names_at))]
@@ -274,17 +278,17 @@ fn names_at<'a>(
     base: &Base,
     floating: u32,
     first: u32,
-    pieces: &'a [Piece],
-) -> Result<(Items<Declarator>, &'a [Piece]), Stop>
-    ensures { Gives (λ x. (x.0, x.1.now)) result (names_at allowed (init_at room (expr_at room)) base.now floating first pieces.now) }
+    terminals: &'a [Terminal],
+) -> Result<(Items<Declarator>, &'a [Terminal]), Stop>
+    ensures { Gives (λ x. (x.0, x.1.now)) result (names_at allowed (init_at room (expr_at room)) base.now floating first terminals.now) }
 {
-    let (next, rest) = declarator_at(alloc, room, allowed, base, floating, first, pieces)?;
+    let (next, rest) = declarator_at(alloc, room, allowed, base, floating, first, terminals)?;
     let mut names = Items::new(alloc);
     names.push(next.into_inner())?;
     more_names(alloc, room, allowed, base, floating, first, names, rest)
 }
 
-/// The names of a declaration, whose base may not be `void`, and the pieces after them.
+/// The names of a declaration, whose base may not be `void`, and the terminals after them.
 pub fn names_of<'a>(
     alloc: Global,
     room: usize,
@@ -292,28 +296,28 @@ pub fn names_of<'a>(
     base: &Base,
     floating: u32,
     first: u32,
-    pieces: &'a [Piece],
-) -> Result<(Items<Declarator>, &'a [Piece]), Stop>
-    ensures { Gives (λ x. (x.0, x.1.now)) result (names_of allowed (init_at room (expr_at room)) base.now floating first pieces.now) }
+    terminals: &'a [Terminal],
+) -> Result<(Items<Declarator>, &'a [Terminal]), Stop>
+    ensures { Gives (λ x. (x.0, x.1.now)) result (names_of allowed (init_at room (expr_at room)) base.now floating first terminals.now) }
 {
     if let Base::Void = base {
         return Err(Stop::Unread);
     }
-    names_at(alloc, room, allowed, base, floating, first, pieces)
+    names_at(alloc, room, allowed, base, floating, first, terminals)
 }
 
-/// A declaration behind its `static`, and the pieces after it. The line of its first token is given.
+/// A declaration behind its `static`, and the terminals after it. The line of its first token is given.
 #[tactic(auto, unfolding(crate::specs::Declaring::declaration_from))]
 pub fn declaration_from(
     alloc: Global,
     room: usize,
     is_static: bool,
     first: u32,
-    pieces: &[Piece],
-) -> Result<(Declaration, &[Piece]), Stop>
-    ensures { Gives (λ x. (x.0, x.1.now)) result (declaration_from (init_at room (expr_at room)) is_static first pieces.now) }
+    terminals: &[Terminal],
+) -> Result<(Declaration, &[Terminal]), Stop>
+    ensures { Gives (λ x. (x.0, x.1.now)) result (declaration_from (init_at room (expr_at room)) is_static first terminals.now) }
 {
-    let Some((base, floating, rest)) = base_at(alloc, pieces)? else {
+    let Some((base, floating, rest)) = base_at(alloc, terminals)? else {
         return Err(Stop::Unread)
     };
     let (names, rest) = names_of(alloc, room, true, &base, floating, first, rest)?;

@@ -15,8 +15,8 @@ use cl_base::name::{Name, NoMemory};
 use cl_parse_expr::cursor::{Fixed, after, line_of, name_at, wanted};
 use cl_parse_expr::stop::Stop;
 use cl_parse_expr::types::{base_at, pointers_at, second_at, type_of};
-use cl_pieces::pieces::copy_pragma;
-use cl_tree::grammar::{Base, Keyword, Piece, Sign};
+use cl_terminals::terminals::copy_pragma;
+use cl_tree::grammar::{Base, Keyword, Sign, Terminal};
 use cl_tree::token::{Mark, Pragma};
 use cl_tree::tree::{CType, Declaration, Declarator, Item, Stmt};
 use sqlite_items::{Boxed, Items};
@@ -28,11 +28,11 @@ fn member_at(
     alloc: Global,
     room: usize,
     first: u32,
-    pieces: &[Piece],
-) -> Result<(Declaration, &[Piece]), Stop>
-    ensures { Gives (λ x. (x.0, x.1.now)) result (member_at (init_at room (expr_at room)) first pieces.now) }
+    terminals: &[Terminal],
+) -> Result<(Declaration, &[Terminal]), Stop>
+    ensures { Gives (λ x. (x.0, x.1.now)) result (member_at (init_at room (expr_at room)) first terminals.now) }
 {
-    let Some((base, floating, rest)) = base_at(alloc, pieces)? else {
+    let Some((base, floating, rest)) = base_at(alloc, terminals)? else {
         return Err(Stop::Unread)
     };
     let (names, rest) = names_of(alloc, room, false, &base, floating, first, rest)?;
@@ -52,20 +52,20 @@ fn members_at(
     room: usize,
     first: u32,
     members: Items<Declaration>,
-    start: &[Piece],
-) -> Result<(Items<Declaration>, &[Piece]), Stop>
+    start: &[Terminal],
+) -> Result<(Items<Declaration>, &[Terminal]), Stop>
     ensures { Gives (λ x. (x.0, x.1.now)) result (members_at (init_at room (expr_at room)) first (suc (length start.now)) members start.now) }
 {
     let mut done = members;
-    let mut pieces = start;
+    let mut terminals = start;
     let mut turns = start.len();
     'members: loop {
-        if let Some((_, rest)) = after(Fixed::Mark(Mark::CloseBrace), pieces) {
+        if let Some((_, rest)) = after(Fixed::Mark(Mark::CloseBrace), terminals) {
             return Ok((done, rest));
         }
-        let (next, rest) = member_at(alloc, room, first, pieces)?;
+        let (next, rest) = member_at(alloc, room, first, terminals)?;
         done.push(next)?;
-        pieces = rest;
+        terminals = rest;
         if turns == 0 {
             return Err(Stop::Unread);
         }
@@ -99,11 +99,11 @@ fn struct_from<'a>(
     room: usize,
     line: u32,
     tag: &Name,
-    pieces: &'a [Piece],
-) -> Result<(Boxed<Item>, &'a [Piece]), Stop>
-    ensures { Gives (λ x. (x.0, x.1.now)) result (struct_from (init_at room (expr_at room)) line tag.now pieces.now) }
+    terminals: &'a [Terminal],
+) -> Result<(Boxed<Item>, &'a [Terminal]), Stop>
+    ensures { Gives (λ x. (x.0, x.1.now)) result (struct_from (init_at room (expr_at room)) line tag.now terminals.now) }
 {
-    let (first, rest) = member_at(alloc, room, line, pieces)?;
+    let (first, rest) = member_at(alloc, room, line, terminals)?;
     let mut members = Items::new(alloc);
     members.push(first)?;
     let (members, rest) = members_at(alloc, room, line, members, rest)?;
@@ -116,11 +116,11 @@ fn parameter_at(
     alloc: Global,
     room: usize,
     first: u32,
-    pieces: &[Piece],
-) -> Result<(Boxed<Declarator>, &[Piece]), Stop>
-    ensures { Gives (λ x. (x.0, x.1.now)) result (parameter_at (init_at room (expr_at room)) first pieces.now) }
+    terminals: &[Terminal],
+) -> Result<(Boxed<Declarator>, &[Terminal]), Stop>
+    ensures { Gives (λ x. (x.0, x.1.now)) result (parameter_at (init_at room (expr_at room)) first terminals.now) }
 {
-    let Some((base, floating, rest)) = base_at(alloc, pieces)? else {
+    let Some((base, floating, rest)) = base_at(alloc, terminals)? else {
         return Err(Stop::Unread)
     };
     if let Base::Void = &base {
@@ -135,23 +135,23 @@ fn more_parameters(
     room: usize,
     first: u32,
     params: Items<Declarator>,
-    start: &[Piece],
-) -> Result<(Items<Declarator>, &[Piece]), Stop>
+    start: &[Terminal],
+) -> Result<(Items<Declarator>, &[Terminal]), Stop>
     ensures { Gives (λ x. (x.0, x.1.now)) result (more_parameters (init_at room (expr_at room)) first (length start.now) params start.now) }
 {
     let mut done = params;
-    let mut pieces = start;
+    let mut terminals = start;
     let mut turns = start.len();
     'parameters: while turns != 0 {
-        match after(Fixed::Mark(Mark::Comma), pieces) {
+        match after(Fixed::Mark(Mark::Comma), terminals) {
             None => {
-                let (_, rest) = wanted(Fixed::Mark(Mark::CloseParen), pieces)?;
+                let (_, rest) = wanted(Fixed::Mark(Mark::CloseParen), terminals)?;
                 return Ok((done, rest));
             }
             Some((_, rest)) => {
                 let (next, rest) = parameter_at(alloc, room, first, rest)?;
                 done.push(next.into_inner())?;
-                pieces = rest;
+                terminals = rest;
             }
         }
         turns -= 1;
@@ -165,18 +165,18 @@ fn parameters_at(
     alloc: Global,
     room: usize,
     first: u32,
-    pieces: &[Piece],
-) -> Result<(bool, Items<Declarator>, &[Piece]), Stop>
-    ensures { Gives (λ x. (x.0, x.1, x.2.now)) result (parameters_at (init_at room (expr_at room)) first pieces.now) }
+    terminals: &[Terminal],
+) -> Result<(bool, Items<Declarator>, &[Terminal]), Stop>
+    ensures { Gives (λ x. (x.0, x.1, x.2.now)) result (parameters_at (init_at room (expr_at room)) first terminals.now) }
 {
-    if let Some((_, rest)) = after(Fixed::Mark(Mark::CloseParen), pieces) {
+    if let Some((_, rest)) = after(Fixed::Mark(Mark::CloseParen), terminals) {
         return Ok((false, Items::new(alloc), rest));
     }
-    if let Some((_, rest)) = after(Fixed::Key(Keyword::Void), pieces) {
+    if let Some((_, rest)) = after(Fixed::Key(Keyword::Void), terminals) {
         let (_, rest) = wanted(Fixed::Mark(Mark::CloseParen), rest)?;
         return Ok((true, Items::new(alloc), rest));
     }
-    let (next, rest) = parameter_at(alloc, room, first, pieces)?;
+    let (next, rest) = parameter_at(alloc, room, first, terminals)?;
     let mut params = Items::new(alloc);
     params.push(next.into_inner())?;
     let (params, rest) = more_parameters(alloc, room, first, params, rest)?;
@@ -187,14 +187,14 @@ fn parameters_at(
 fn body_at(
     alloc: Global,
     room: usize,
-    pieces: &[Piece],
-) -> Result<(Option<Items<Stmt>>, &[Piece]), Stop>
-    ensures { Gives (λ x. (x.0, x.1.now)) result (body_at (listed_of (stmt_at room (expr_at room) (init_at room (expr_at room))) (init_at room (expr_at room))) pieces.now) }
+    terminals: &[Terminal],
+) -> Result<(Option<Items<Stmt>>, &[Terminal]), Stop>
+    ensures { Gives (λ x. (x.0, x.1.now)) result (body_at (listed_of (stmt_at room (expr_at room) (init_at room (expr_at room))) (init_at room (expr_at room))) terminals.now) }
 {
-    match after(Fixed::Mark(Mark::Semicolon), pieces) {
+    match after(Fixed::Mark(Mark::Semicolon), terminals) {
         Some((_, rest)) => Ok((None, rest)),
         None => {
-            let (_, rest) = wanted(Fixed::Mark(Mark::OpenBrace), pieces)?;
+            let (_, rest) = wanted(Fixed::Mark(Mark::OpenBrace), terminals)?;
             let (all, rest) = block_at(alloc, room, room, rest)?;
             Ok((Some(all), rest))
         }
@@ -240,11 +240,11 @@ fn function_from<'a>(
     name: &Name,
     first: u32,
     second: u32,
-    pieces: &'a [Piece],
-) -> Result<(Boxed<Item>, &'a [Piece]), Stop>
-    ensures { Gives (λ x. (x.0, x.1.now)) result (function_from (listed_of (stmt_at room (expr_at room) (init_at room (expr_at room))) (init_at room (expr_at room))) (init_at room (expr_at room)) is_static given name.now first second pieces.now) }
+    terminals: &'a [Terminal],
+) -> Result<(Boxed<Item>, &'a [Terminal]), Stop>
+    ensures { Gives (λ x. (x.0, x.1.now)) result (function_from (listed_of (stmt_at room (expr_at room) (init_at room (expr_at room))) (init_at room (expr_at room))) (init_at room (expr_at room)) is_static given name.now first second terminals.now) }
 {
-    let (void_word, params, rest) = parameters_at(alloc, room, first, pieces)?;
+    let (void_word, params, rest) = parameters_at(alloc, room, first, terminals)?;
     let (body, rest) = body_at(alloc, room, rest)?;
     Ok((
         function(
@@ -279,21 +279,21 @@ fn variables_from<'a>(
     base: &Base,
     floating: u32,
     first: u32,
-    pieces: &'a [Piece],
-) -> Result<(Boxed<Item>, &'a [Piece]), Stop>
-    ensures { Gives (λ x. (x.0, x.1.now)) result (variables_from (init_at room (expr_at room)) is_static base.now floating first pieces.now) }
+    terminals: &'a [Terminal],
+) -> Result<(Boxed<Item>, &'a [Terminal]), Stop>
+    ensures { Gives (λ x. (x.0, x.1.now)) result (variables_from (init_at room (expr_at room)) is_static base.now floating first terminals.now) }
 {
-    let (names, rest) = names_of(alloc, room, true, base, floating, first, pieces)?;
+    let (names, rest) = names_of(alloc, room, true, base, floating, first, terminals)?;
     let (_, rest) = wanted(Fixed::Mark(Mark::Semicolon), rest)?;
     Ok((variables(alloc, is_static, names)?, rest))
 }
 
 /// A name and a `(`, which make a function.
 #[tactic(auto, unfolding(crate::specs::Itemising::called_at))]
-fn called_at(pieces: &[Piece]) -> Option<(&Name, u32, &[Piece])>
-    ensures { Finds (λ x. (x.0.now, x.1, x.2.now)) result (called_at pieces.now) }
+fn called_at(terminals: &[Terminal]) -> Option<(&Name, u32, &[Terminal])>
+    ensures { Finds (λ x. (x.0.now, x.1, x.2.now)) result (called_at terminals.now) }
 {
-    let Some((name, line, rest)) = name_at(pieces) else {
+    let Some((name, line, rest)) = name_at(terminals) else {
         return None
     };
     match after(Fixed::Mark(Mark::OpenParen), rest) {
@@ -310,12 +310,12 @@ fn plain_from<'a>(
     first: u32,
     base: &Base,
     floating: u32,
-    pieces: &'a [Piece],
-) -> Result<(Boxed<Item>, &'a [Piece]), Stop>
-    ensures { Gives (λ x. (x.0, x.1.now)) result (plain_from (listed_of (stmt_at room (expr_at room) (init_at room (expr_at room))) (init_at room (expr_at room))) (init_at room (expr_at room)) is_static first (base.now, floating, pieces.now)) }
+    terminals: &'a [Terminal],
+) -> Result<(Boxed<Item>, &'a [Terminal]), Stop>
+    ensures { Gives (λ x. (x.0, x.1.now)) result (plain_from (listed_of (stmt_at room (expr_at room) (init_at room (expr_at room))) (init_at room (expr_at room))) (init_at room (expr_at room)) is_static first (base.now, floating, terminals.now)) }
 {
     let plain = type_of(alloc, base)?;
-    let (ctype, rest) = pointers_at(alloc, plain, pieces)?;
+    let (ctype, rest) = pointers_at(alloc, plain, terminals)?;
     match called_at(rest) {
         Some((name, line, rest)) => function_from(
             alloc,
@@ -324,10 +324,10 @@ fn plain_from<'a>(
             ctype,
             name,
             first,
-            second_at(base, floating, line, pieces),
+            second_at(base, floating, line, terminals),
             rest,
         ),
-        None => variables_from(alloc, room, is_static, base, floating, first, pieces),
+        None => variables_from(alloc, room, is_static, base, floating, first, terminals),
     }
 }
 
@@ -338,11 +338,11 @@ fn plain_at(
     room: usize,
     is_static: bool,
     first: u32,
-    pieces: &[Piece],
-) -> Result<(Boxed<Item>, &[Piece]), Stop>
-    ensures { Gives (λ x. (x.0, x.1.now)) result (plain_at (listed_of (stmt_at room (expr_at room) (init_at room (expr_at room))) (init_at room (expr_at room))) (init_at room (expr_at room)) is_static first pieces.now) }
+    terminals: &[Terminal],
+) -> Result<(Boxed<Item>, &[Terminal]), Stop>
+    ensures { Gives (λ x. (x.0, x.1.now)) result (plain_at (listed_of (stmt_at room (expr_at room) (init_at room (expr_at room))) (init_at room (expr_at room))) (init_at room (expr_at room)) is_static first terminals.now) }
 {
-    let Some((base, floating, rest)) = base_at(alloc, pieces)? else {
+    let Some((base, floating, rest)) = base_at(alloc, terminals)? else {
         return Err(Stop::Unread)
     };
     plain_from(alloc, room, is_static, first, &base, floating, rest)
@@ -350,10 +350,10 @@ fn plain_at(
 
 /// `struct`, a tag and a `{`.
 #[tactic(auto, unfolding(crate::specs::Itemising::struct_at))]
-fn struct_at(pieces: &[Piece]) -> Option<(&Name, &[Piece])>
-    ensures { Finds (λ x. (x.0.now, x.1.now)) result (struct_at pieces.now) }
+fn struct_at(terminals: &[Terminal]) -> Option<(&Name, &[Terminal])>
+    ensures { Finds (λ x. (x.0.now, x.1.now)) result (struct_at terminals.now) }
 {
-    let Some((_, rest)) = after(Fixed::Key(Keyword::Struct), pieces) else {
+    let Some((_, rest)) = after(Fixed::Key(Keyword::Struct), terminals) else {
         return None
     };
     let Some((name, _, rest)) = name_at(rest) else {
@@ -369,38 +369,38 @@ fn struct_at(pieces: &[Piece]) -> Option<(&Name, &[Piece])>
 fn unmarked_at(
     alloc: Global,
     room: usize,
-    pieces: &[Piece],
-) -> Result<(Boxed<Item>, &[Piece]), Stop>
-    ensures { Gives (λ x. (x.0, x.1.now)) result (unmarked_at (listed_of (stmt_at room (expr_at room) (init_at room (expr_at room))) (init_at room (expr_at room))) (init_at room (expr_at room)) pieces.now) }
+    terminals: &[Terminal],
+) -> Result<(Boxed<Item>, &[Terminal]), Stop>
+    ensures { Gives (λ x. (x.0, x.1.now)) result (unmarked_at (listed_of (stmt_at room (expr_at room) (init_at room (expr_at room))) (init_at room (expr_at room))) (init_at room (expr_at room)) terminals.now) }
 {
-    match struct_at(pieces) {
-        Some((tag, rest)) => struct_from(alloc, room, line_of(pieces), tag, rest),
-        None => plain_at(alloc, room, false, line_of(pieces), pieces),
+    match struct_at(terminals) {
+        Some((tag, rest)) => struct_from(alloc, room, line_of(terminals), tag, rest),
+        None => plain_at(alloc, room, false, line_of(terminals), terminals),
     }
 }
 
-fn directive(alloc: Global, pragma: &Pragma, line: u32) -> Result<Boxed<Item>, NoMemory>
+fn pragma_item(alloc: Global, pragma: &Pragma, line: u32) -> Result<Boxed<Item>, NoMemory>
     ensures { IfOk result (λ i. i ≡ Item.Cle pragma.now line) }
 {
     let pragma = copy_pragma(alloc, pragma)?;
     Ok(Boxed::new(alloc, Item::Cle(pragma, line))?)
 }
 
-/// An item, and the pieces after it.
+/// An item, and the terminals after it.
 #[tactic(auto, unfolding(crate::specs::Itemising::item_of))]
 pub fn item_at(
     alloc: Global,
     room: usize,
-    pieces: &[Piece],
-) -> Result<(Boxed<Item>, &[Piece]), Stop>
-    ensures { Gives (λ x. (x.0, x.1.now)) result (item_of (listed_of (stmt_at room (expr_at room) (init_at room (expr_at room))) (init_at room (expr_at room))) (init_at room (expr_at room)) pieces.now) }
+    terminals: &[Terminal],
+) -> Result<(Boxed<Item>, &[Terminal]), Stop>
+    ensures { Gives (λ x. (x.0, x.1.now)) result (item_of (listed_of (stmt_at room (expr_at room) (init_at room (expr_at room))) (init_at room (expr_at room))) (init_at room (expr_at room)) terminals.now) }
 {
-    let [first, rest @ ..] = pieces else {
+    let [first, rest @ ..] = terminals else {
         return Err(Stop::Unread)
     };
     match &first.what {
-        Sign::Cle(pragma) => Ok((directive(alloc, pragma, first.line)?, rest)),
+        Sign::Cle(pragma) => Ok((pragma_item(alloc, pragma, first.line)?, rest)),
         Sign::Key(Keyword::Static) => plain_at(alloc, room, true, first.line, rest),
-        _ => unmarked_at(alloc, room, pieces),
+        _ => unmarked_at(alloc, room, terminals),
     }
 }

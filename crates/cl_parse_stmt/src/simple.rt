@@ -10,22 +10,22 @@ use cl_base::name::NoMemory;
 use cl_parse_expr::cursor::{Fixed, after};
 use cl_parse_expr::expr::expr_at;
 use cl_parse_expr::stop::Stop;
-use cl_tree::grammar::{Piece, Sign};
+use cl_tree::grammar::{Sign, Terminal};
 use cl_tree::kinds::BinOp;
 use cl_tree::token::Mark;
 use cl_tree::tree::{Act, Expr, Node, Stmt};
 use sqlite_items::Boxed;
 use std::alloc::Global;
 
-/// A statement that was read, and the pieces after it.
+/// A statement that was read, and the terminals after it.
 pub fn boxed(alloc: Global, line: u32, second: u32, node: Act) -> Result<Boxed<Stmt>, NoMemory>
     ensures { IfOk result (λ s. s ≡ stmt line second node) }
 {
     Ok(Boxed::new(alloc, Stmt { line, second, node })?)
 }
 
-/// What a piece makes of the expression before it.
-#[derive(Clone, Copy, Debug, PartialEq, Eq)]
+/// What a terminal makes of the expression before it.
+#[derive(Clone, Copy, PartialEq, Eq)]
 pub enum Tail {
     Nothing,
     /// `=`, or with an operator `op=`.
@@ -56,15 +56,15 @@ fn mark_tail(mark: Mark) -> Tail
 }
 
 #[tactic(auto, unfolding(crate::specs::Stating::tail_at))]
-fn tail_at(pieces: &[Piece]) -> (Tail, u32, &[Piece])
-    ensures { (result.0, result.1, result.2.now) ≡ tail_at pieces.now }
+fn tail_at(terminals: &[Terminal]) -> (Tail, u32, &[Terminal])
+    ensures { (result.0, result.1, result.2.now) ≡ tail_at terminals.now }
 {
-    match pieces {
+    match terminals {
         [first, rest @ ..] => match &first.what {
             Sign::Mark(mark) => (mark_tail(*mark), first.line, rest),
             _ => (Tail::Nothing, first.line, rest),
         },
-        [] => (Tail::Nothing, 0, pieces),
+        [] => (Tail::Nothing, 0, terminals),
     }
 }
 
@@ -95,11 +95,11 @@ fn ended_by<'a>(
     alloc: Global,
     room: usize,
     place: Boxed<Expr>,
-    here: &'a [Piece],
+    here: &'a [Terminal],
     tail: Tail,
     line: u32,
-    next: &'a [Piece],
-) -> Result<(Boxed<Stmt>, &'a [Piece]), Stop>
+    next: &'a [Terminal],
+) -> Result<(Boxed<Stmt>, &'a [Terminal]), Stop>
     ensures { Gives (λ x. (x.0, x.1.now)) result (ended_by (expr_at room) place here.now tail line next.now) }
 {
     let first = place.get().line;
@@ -159,11 +159,11 @@ fn bumped(
     room: usize,
     up: bool,
     line: u32,
-    pieces: &[Piece],
-) -> Result<(Boxed<Stmt>, &[Piece]), Stop>
-    ensures { Gives (λ x. (x.0, x.1.now)) result (bumped (expr_at room) up line pieces.now) }
+    terminals: &[Terminal],
+) -> Result<(Boxed<Stmt>, &[Terminal]), Stop>
+    ensures { Gives (λ x. (x.0, x.1.now)) result (bumped (expr_at room) up line terminals.now) }
 {
-    let (place, rest) = expr_at(alloc, room, 12, pieces)?;
+    let (place, rest) = expr_at(alloc, room, 12, terminals)?;
     if !is_unary(place.get()) {
         return Err(Stop::Unread);
     }
@@ -182,22 +182,22 @@ fn bumped(
     ))
 }
 
-/// A simple statement without its `;`, and the pieces after it.
+/// A simple statement without its `;`, and the terminals after it.
 #[tactic(auto, unfolding(crate::specs::Stating::simple_at, crate::specs::Stating::from_place))]
 pub fn simple_at(
     alloc: Global,
     room: usize,
-    pieces: &[Piece],
-) -> Result<(Boxed<Stmt>, &[Piece]), Stop>
-    ensures { Gives (λ x. (x.0, x.1.now)) result (simple_at (expr_at room) pieces.now) }
+    terminals: &[Terminal],
+) -> Result<(Boxed<Stmt>, &[Terminal]), Stop>
+    ensures { Gives (λ x. (x.0, x.1.now)) result (simple_at (expr_at room) terminals.now) }
 {
-    if let Some((line, rest)) = after(Fixed::Mark(Mark::PlusPlus), pieces) {
+    if let Some((line, rest)) = after(Fixed::Mark(Mark::PlusPlus), terminals) {
         return bumped(alloc, room, true, line, rest);
     }
-    if let Some((line, rest)) = after(Fixed::Mark(Mark::MinusMinus), pieces) {
+    if let Some((line, rest)) = after(Fixed::Mark(Mark::MinusMinus), terminals) {
         return bumped(alloc, room, false, line, rest);
     }
-    let (place, rest) = expr_at(alloc, room, 12, pieces)?;
+    let (place, rest) = expr_at(alloc, room, 12, terminals)?;
     let (tail, line, next) = tail_at(rest);
     ended_by(alloc, room, place, rest, tail, line, next)
 }

@@ -14,15 +14,15 @@ use cl_base::name::{Name, NoMemory};
 use cl_parse_expr::cursor::{Fixed, after, line_of, wanted};
 use cl_parse_expr::expr::expr_at;
 use cl_parse_expr::stop::Stop;
-use cl_pieces::pieces::copy_pragma;
-use cl_tree::grammar::{Keyword, Piece, Sign};
+use cl_terminals::terminals::copy_pragma;
+use cl_tree::grammar::{Keyword, Sign, Terminal};
 use cl_tree::token::{Mark, Pragma};
 use cl_tree::tree::{Act, Declaration, Expr, Stmt};
 use sqlite_items::{Boxed, Items};
 use std::alloc::Global;
 
 /// What a statement begins with.
-#[derive(Clone, Copy, Debug, PartialEq, Eq)]
+#[derive(Clone, Copy, PartialEq, Eq)]
 pub enum Head {
     Empty,
     Block,
@@ -55,10 +55,14 @@ fn sign_head(what: &Sign) -> Head
 
 /// An expression in parentheses.
 #[tactic(auto, unfolding(crate::specs::Stating::test_at))]
-fn test_at(alloc: Global, room: usize, pieces: &[Piece]) -> Result<(Boxed<Expr>, &[Piece]), Stop>
-    ensures { Gives (λ x. (x.0, x.1.now)) result (test_at (expr_at room) pieces.now) }
+fn test_at(
+    alloc: Global,
+    room: usize,
+    terminals: &[Terminal],
+) -> Result<(Boxed<Expr>, &[Terminal]), Stop>
+    ensures { Gives (λ x. (x.0, x.1.now)) result (test_at (expr_at room) terminals.now) }
 {
-    let (_, rest) = wanted(Fixed::Mark(Mark::OpenParen), pieces)?;
+    let (_, rest) = wanted(Fixed::Mark(Mark::OpenParen), terminals)?;
     let (test, rest) = expr_at(alloc, room, 1, rest)?;
     let (_, rest) = wanted(Fixed::Mark(Mark::CloseParen), rest)?;
     Ok((test, rest))
@@ -66,28 +70,32 @@ fn test_at(alloc: Global, room: usize, pieces: &[Piece]) -> Result<(Boxed<Expr>,
 
 /// A declaration without its `;`.
 #[tactic(auto, unfolding(crate::specs::Stating::declare_at))]
-fn declare_at(alloc: Global, room: usize, pieces: &[Piece]) -> Result<(Boxed<Stmt>, &[Piece]), Stop>
-    ensures { Gives (λ x. (x.0, x.1.now)) result (declare_at (init_at room (expr_at room)) pieces.now) }
+fn declare_at(
+    alloc: Global,
+    room: usize,
+    terminals: &[Terminal],
+) -> Result<(Boxed<Stmt>, &[Terminal]), Stop>
+    ensures { Gives (λ x. (x.0, x.1.now)) result (declare_at (init_at room (expr_at room)) terminals.now) }
 {
-    match after(Fixed::Key(Keyword::Static), pieces) {
+    match after(Fixed::Key(Keyword::Static), terminals) {
         Some((line, rest)) => {
             let (declaration, rest) = declaration_from(alloc, room, true, line, rest)?;
             Ok((boxed(alloc, line, line, Act::Declare(declaration))?, rest))
         }
         None => {
-            let line = line_of(pieces);
-            let (declaration, rest) = declaration_from(alloc, room, false, line, pieces)?;
+            let line = line_of(terminals);
+            let (declaration, rest) = declaration_from(alloc, room, false, line, terminals)?;
             Ok((boxed(alloc, line, line, Act::Declare(declaration))?, rest))
         }
     }
 }
 
-/// Whether the first piece begins a declaration.
+/// Whether the first terminal begins a declaration.
 #[tactic(auto, unfolding(crate::specs::Stating::declares_at))]
-fn declares_at(pieces: &[Piece]) -> bool
-    ensures { result ≡ declares_at pieces.now }
+fn declares_at(terminals: &[Terminal]) -> bool
+    ensures { result ≡ declares_at terminals.now }
 {
-    match pieces {
+    match terminals {
         [first, ..] => match &first.what {
             Sign::Kind(_) => true,
             Sign::Real => true,
@@ -101,13 +109,17 @@ fn declares_at(pieces: &[Piece]) -> bool
 
 /// A simple statement or a declaration, without its `;`.
 #[tactic(auto, unfolding(crate::specs::Stating::line_at))]
-fn line_at(alloc: Global, room: usize, pieces: &[Piece]) -> Result<(Boxed<Stmt>, &[Piece]), Stop>
-    ensures { Gives (λ x. (x.0, x.1.now)) result (line_at (expr_at room) (init_at room (expr_at room)) pieces.now) }
+fn line_at(
+    alloc: Global,
+    room: usize,
+    terminals: &[Terminal],
+) -> Result<(Boxed<Stmt>, &[Terminal]), Stop>
+    ensures { Gives (λ x. (x.0, x.1.now)) result (line_at (expr_at room) (init_at room (expr_at room)) terminals.now) }
 {
-    if declares_at(pieces) {
-        declare_at(alloc, room, pieces)
+    if declares_at(terminals) {
+        declare_at(alloc, room, terminals)
     } else {
-        simple_at(alloc, room, pieces)
+        simple_at(alloc, room, terminals)
     }
 }
 
@@ -115,14 +127,14 @@ fn line_at(alloc: Global, room: usize, pieces: &[Piece]) -> Result<(Boxed<Stmt>,
 fn first_at(
     alloc: Global,
     room: usize,
-    pieces: &[Piece],
-) -> Result<(Option<Boxed<Stmt>>, &[Piece]), Stop>
-    ensures { Gives (λ x. (x.0, x.1.now)) result (first_at (expr_at room) (init_at room (expr_at room)) pieces.now) }
+    terminals: &[Terminal],
+) -> Result<(Option<Boxed<Stmt>>, &[Terminal]), Stop>
+    ensures { Gives (λ x. (x.0, x.1.now)) result (first_at (expr_at room) (init_at room (expr_at room)) terminals.now) }
 {
-    match after(Fixed::Mark(Mark::Semicolon), pieces) {
+    match after(Fixed::Mark(Mark::Semicolon), terminals) {
         Some((_, rest)) => Ok((None, rest)),
         None => {
-            let (first, rest) = line_at(alloc, room, pieces)?;
+            let (first, rest) = line_at(alloc, room, terminals)?;
             let (_, rest) = wanted(Fixed::Mark(Mark::Semicolon), rest)?;
             Ok((Some(first), rest))
         }
@@ -134,14 +146,14 @@ fn first_at(
 fn value_at(
     alloc: Global,
     room: usize,
-    pieces: &[Piece],
-) -> Result<(Option<Boxed<Expr>>, &[Piece]), Stop>
-    ensures { Gives (λ x. (x.0, x.1.now)) result (value_at (expr_at room) pieces.now) }
+    terminals: &[Terminal],
+) -> Result<(Option<Boxed<Expr>>, &[Terminal]), Stop>
+    ensures { Gives (λ x. (x.0, x.1.now)) result (value_at (expr_at room) terminals.now) }
 {
-    match after(Fixed::Mark(Mark::Semicolon), pieces) {
+    match after(Fixed::Mark(Mark::Semicolon), terminals) {
         Some((_, rest)) => Ok((None, rest)),
         None => {
-            let (value, rest) = expr_at(alloc, room, 1, pieces)?;
+            let (value, rest) = expr_at(alloc, room, 1, terminals)?;
             let (_, rest) = wanted(Fixed::Mark(Mark::Semicolon), rest)?;
             Ok((Some(value), rest))
         }
@@ -152,14 +164,14 @@ fn value_at(
 fn next_at(
     alloc: Global,
     room: usize,
-    pieces: &[Piece],
-) -> Result<(Option<Boxed<Stmt>>, &[Piece]), Stop>
-    ensures { Gives (λ x. (x.0, x.1.now)) result (next_at (expr_at room) pieces.now) }
+    terminals: &[Terminal],
+) -> Result<(Option<Boxed<Stmt>>, &[Terminal]), Stop>
+    ensures { Gives (λ x. (x.0, x.1.now)) result (next_at (expr_at room) terminals.now) }
 {
-    match after(Fixed::Mark(Mark::CloseParen), pieces) {
+    match after(Fixed::Mark(Mark::CloseParen), terminals) {
         Some((_, rest)) => Ok((None, rest)),
         None => {
-            let (next, rest) = simple_at(alloc, room, pieces)?;
+            let (next, rest) = simple_at(alloc, room, terminals)?;
             let (_, rest) = wanted(Fixed::Mark(Mark::CloseParen), rest)?;
             Ok((Some(next), rest))
         }
@@ -180,38 +192,46 @@ fn return_at(
     alloc: Global,
     room: usize,
     line: u32,
-    pieces: &[Piece],
-) -> Result<(Boxed<Stmt>, &[Piece]), Stop>
-    ensures { Gives (λ x. (x.0, x.1.now)) result (return_at (expr_at room) line pieces.now) }
+    terminals: &[Terminal],
+) -> Result<(Boxed<Stmt>, &[Terminal]), Stop>
+    ensures { Gives (λ x. (x.0, x.1.now)) result (return_at (expr_at room) line terminals.now) }
 {
-    let (value, rest) = value_at(alloc, room, pieces)?;
+    let (value, rest) = value_at(alloc, room, terminals)?;
     Ok((boxed(alloc, line, line, Act::Return(opened(value)))?, rest))
 }
 
 #[tactic(auto, unfolding(crate::specs::Stating::jump_at))]
-fn break_at(alloc: Global, line: u32, pieces: &[Piece]) -> Result<(Boxed<Stmt>, &[Piece]), Stop>
-    ensures { Gives (λ x. (x.0, x.1.now)) result (jump_at Act.Break line pieces.now) }
+fn break_at(
+    alloc: Global,
+    line: u32,
+    terminals: &[Terminal],
+) -> Result<(Boxed<Stmt>, &[Terminal]), Stop>
+    ensures { Gives (λ x. (x.0, x.1.now)) result (jump_at Act.Break line terminals.now) }
 {
-    let (_, rest) = wanted(Fixed::Mark(Mark::Semicolon), pieces)?;
+    let (_, rest) = wanted(Fixed::Mark(Mark::Semicolon), terminals)?;
     Ok((boxed(alloc, line, line, Act::Break)?, rest))
 }
 
 #[tactic(auto, unfolding(crate::specs::Stating::jump_at))]
-fn continue_at(alloc: Global, line: u32, pieces: &[Piece]) -> Result<(Boxed<Stmt>, &[Piece]), Stop>
-    ensures { Gives (λ x. (x.0, x.1.now)) result (jump_at Act.Continue line pieces.now) }
+fn continue_at(
+    alloc: Global,
+    line: u32,
+    terminals: &[Terminal],
+) -> Result<(Boxed<Stmt>, &[Terminal]), Stop>
+    ensures { Gives (λ x. (x.0, x.1.now)) result (jump_at Act.Continue line terminals.now) }
 {
-    let (_, rest) = wanted(Fixed::Mark(Mark::Semicolon), pieces)?;
+    let (_, rest) = wanted(Fixed::Mark(Mark::Semicolon), terminals)?;
     Ok((boxed(alloc, line, line, Act::Continue)?, rest))
 }
 
 fn simple_before(
     alloc: Global,
     room: usize,
-    pieces: &[Piece],
-) -> Result<(Boxed<Stmt>, &[Piece]), Stop>
-    ensures { Gives (λ x. (x.0, x.1.now)) result (before (simple_at (expr_at room) pieces.now) (fixed.Mark mark.Semicolon)) }
+    terminals: &[Terminal],
+) -> Result<(Boxed<Stmt>, &[Terminal]), Stop>
+    ensures { Gives (λ x. (x.0, x.1.now)) result (before (simple_at (expr_at room) terminals.now) (fixed.Mark mark.Semicolon)) }
 {
-    let (s, rest) = simple_at(alloc, room, pieces)?;
+    let (s, rest) = simple_at(alloc, room, terminals)?;
     let (_, rest) = wanted(Fixed::Mark(Mark::Semicolon), rest)?;
     Ok((s, rest))
 }
@@ -219,16 +239,16 @@ fn simple_before(
 fn declare_before(
     alloc: Global,
     room: usize,
-    pieces: &[Piece],
-) -> Result<(Boxed<Stmt>, &[Piece]), Stop>
-    ensures { Gives (λ x. (x.0, x.1.now)) result (before (declare_at (init_at room (expr_at room)) pieces.now) (fixed.Mark mark.Semicolon)) }
+    terminals: &[Terminal],
+) -> Result<(Boxed<Stmt>, &[Terminal]), Stop>
+    ensures { Gives (λ x. (x.0, x.1.now)) result (before (declare_at (init_at room (expr_at room)) terminals.now) (fixed.Mark mark.Semicolon)) }
 {
-    let (s, rest) = declare_at(alloc, room, pieces)?;
+    let (s, rest) = declare_at(alloc, room, terminals)?;
     let (_, rest) = wanted(Fixed::Mark(Mark::Semicolon), rest)?;
     Ok((s, rest))
 }
 
-fn directive(alloc: Global, line: u32, pragma: &Pragma) -> Result<Boxed<Stmt>, NoMemory>
+fn pragma_statement(alloc: Global, line: u32, pragma: &Pragma) -> Result<Boxed<Stmt>, NoMemory>
     ensures { IfOk result (λ s. s ≡ stmt line line (Act.Cle pragma.now)) }
 {
     boxed(alloc, line, line, Act::Cle(copy_pragma(alloc, pragma)?))
@@ -241,11 +261,11 @@ fn if_at(
     room: usize,
     deep: usize,
     line: u32,
-    pieces: &[Piece],
-) -> Result<(Boxed<Stmt>, &[Piece]), Stop>
-    ensures { Gives (λ x. (x.0, x.1.now)) result (if_at (stmt_at deep (expr_at room) (init_at room (expr_at room))) (expr_at room) line pieces.now) }
+    terminals: &[Terminal],
+) -> Result<(Boxed<Stmt>, &[Terminal]), Stop>
+    ensures { Gives (λ x. (x.0, x.1.now)) result (if_at (stmt_at deep (expr_at room) (init_at room (expr_at room))) (expr_at room) line terminals.now) }
 {
-    let (test, rest) = test_at(alloc, room, pieces)?;
+    let (test, rest) = test_at(alloc, room, terminals)?;
     let (yes, rest) = stmt_at(alloc, room, deep, rest)?;
     match after(Fixed::Key(Keyword::Else), rest) {
         Some((_, rest)) => {
@@ -269,11 +289,11 @@ fn while_at(
     room: usize,
     deep: usize,
     line: u32,
-    pieces: &[Piece],
-) -> Result<(Boxed<Stmt>, &[Piece]), Stop>
-    ensures { Gives (λ x. (x.0, x.1.now)) result (while_at (stmt_at deep (expr_at room) (init_at room (expr_at room))) (expr_at room) line pieces.now) }
+    terminals: &[Terminal],
+) -> Result<(Boxed<Stmt>, &[Terminal]), Stop>
+    ensures { Gives (λ x. (x.0, x.1.now)) result (while_at (stmt_at deep (expr_at room) (init_at room (expr_at room))) (expr_at room) line terminals.now) }
 {
-    let (test, rest) = test_at(alloc, room, pieces)?;
+    let (test, rest) = test_at(alloc, room, terminals)?;
     let (body, rest) = stmt_at(alloc, room, deep, rest)?;
     Ok((
         boxed(alloc, line, line, Act::While(test.into_inner(), body))?,
@@ -288,11 +308,11 @@ fn do_at(
     room: usize,
     deep: usize,
     line: u32,
-    pieces: &[Piece],
-) -> Result<(Boxed<Stmt>, &[Piece]), Stop>
-    ensures { Gives (λ x. (x.0, x.1.now)) result (do_at (stmt_at deep (expr_at room) (init_at room (expr_at room))) (expr_at room) line pieces.now) }
+    terminals: &[Terminal],
+) -> Result<(Boxed<Stmt>, &[Terminal]), Stop>
+    ensures { Gives (λ x. (x.0, x.1.now)) result (do_at (stmt_at deep (expr_at room) (init_at room (expr_at room))) (expr_at room) line terminals.now) }
 {
-    let (body, rest) = stmt_at(alloc, room, deep, pieces)?;
+    let (body, rest) = stmt_at(alloc, room, deep, terminals)?;
     let (_, rest) = wanted(Fixed::Key(Keyword::While), rest)?;
     let (test, rest) = test_at(alloc, room, rest)?;
     let (_, rest) = wanted(Fixed::Mark(Mark::Semicolon), rest)?;
@@ -309,11 +329,11 @@ fn for_at(
     room: usize,
     deep: usize,
     line: u32,
-    pieces: &[Piece],
-) -> Result<(Boxed<Stmt>, &[Piece]), Stop>
-    ensures { Gives (λ x. (x.0, x.1.now)) result (for_at (stmt_at deep (expr_at room) (init_at room (expr_at room))) (expr_at room) (init_at room (expr_at room)) line pieces.now) }
+    terminals: &[Terminal],
+) -> Result<(Boxed<Stmt>, &[Terminal]), Stop>
+    ensures { Gives (λ x. (x.0, x.1.now)) result (for_at (stmt_at deep (expr_at room) (init_at room (expr_at room))) (expr_at room) (init_at room (expr_at room)) line terminals.now) }
 {
-    let (_, rest) = wanted(Fixed::Mark(Mark::OpenParen), pieces)?;
+    let (_, rest) = wanted(Fixed::Mark(Mark::OpenParen), terminals)?;
     let (first, rest) = first_at(alloc, room, rest)?;
     let (test, rest) = value_at(alloc, room, rest)?;
     let (next, rest) = next_at(alloc, room, rest)?;
@@ -334,27 +354,27 @@ fn for_at(
     ))
 }
 
-/// One of a block's statements: also a declaration or a directive.
+/// One of a block's statements: also a declaration or a pragma.
 #[cycle(stmt)]
 #[tactic(auto, unfolding(crate::specs::Stating::listed_of))]
 fn listed_at(
     alloc: Global,
     room: usize,
     deep: usize,
-    pieces: &[Piece],
-) -> Result<(Boxed<Stmt>, &[Piece]), Stop>
-    ensures { Gives (λ x. (x.0, x.1.now)) result (listed_of (stmt_at deep (expr_at room) (init_at room (expr_at room))) (init_at room (expr_at room)) pieces.now) }
+    terminals: &[Terminal],
+) -> Result<(Boxed<Stmt>, &[Terminal]), Stop>
+    ensures { Gives (λ x. (x.0, x.1.now)) result (listed_of (stmt_at deep (expr_at room) (init_at room (expr_at room))) (init_at room (expr_at room)) terminals.now) }
 {
-    let [first, rest @ ..] = pieces else {
+    let [first, rest @ ..] = terminals else {
         return Err(Stop::Unread)
     };
     match &first.what {
-        Sign::Cle(pragma) => Ok((directive(alloc, first.line, pragma)?, rest)),
+        Sign::Cle(pragma) => Ok((pragma_statement(alloc, first.line, pragma)?, rest)),
         _ => {
-            if declares_at(pieces) {
-                declare_before(alloc, room, pieces)
+            if declares_at(terminals) {
+                declare_before(alloc, room, terminals)
             } else {
-                stmt_at(alloc, room, deep, pieces)
+                stmt_at(alloc, room, deep, terminals)
             }
         }
     }
@@ -367,20 +387,20 @@ pub fn block_at(
     alloc: Global,
     room: usize,
     deep: usize,
-    start: &[Piece],
-) -> Result<(Items<Stmt>, &[Piece]), Stop>
+    start: &[Terminal],
+) -> Result<(Items<Stmt>, &[Terminal]), Stop>
     ensures { Gives (λ x. (x.0, x.1.now)) result (block_at (listed_of (stmt_at deep (expr_at room) (init_at room (expr_at room))) (init_at room (expr_at room))) (suc (length start.now)) [] start.now) }
 {
     let mut done = Items::new(alloc);
-    let mut pieces = start;
+    let mut terminals = start;
     let mut turns = start.len();
     'statements: loop {
-        if let Some((_, rest)) = after(Fixed::Mark(Mark::CloseBrace), pieces) {
+        if let Some((_, rest)) = after(Fixed::Mark(Mark::CloseBrace), terminals) {
             return Ok((done, rest));
         }
-        let (next, rest) = listed_at(alloc, room, deep, pieces)?;
+        let (next, rest) = listed_at(alloc, room, deep, terminals)?;
         done.push(next.into_inner())?;
-        pieces = rest;
+        terminals = rest;
         if turns == 0 {
             return Err(Stop::Unread);
         }
@@ -396,9 +416,9 @@ fn headed<'a>(
     deep: usize,
     head: Head,
     line: u32,
-    here: &'a [Piece],
-    rest: &'a [Piece],
-) -> Result<(Boxed<Stmt>, &'a [Piece]), Stop>
+    here: &'a [Terminal],
+    rest: &'a [Terminal],
+) -> Result<(Boxed<Stmt>, &'a [Terminal]), Stop>
     ensures { Gives (λ x. (x.0, x.1.now)) result (headed (stmt_at deep (expr_at room) (init_at room (expr_at room))) (listed_of (stmt_at deep (expr_at room) (init_at room (expr_at room))) (init_at room (expr_at room))) (expr_at room) (init_at room (expr_at room)) head line here.now rest.now) }
 {
     match head {
@@ -418,21 +438,21 @@ fn headed<'a>(
     }
 }
 
-/// A statement, and the pieces after it. With `deep` above the number of pieces each statement is found.
+/// A statement, and the terminals after it. With `deep` above the number of terminals each statement is found.
 #[cycle(stmt)]
 #[tactic(auto, unfolding(crate::specs::Stating::stmt_at, crate::specs::Stating::stmt_of))]
 fn stmt_at(
     alloc: Global,
     room: usize,
     deep: usize,
-    pieces: &[Piece],
-) -> Result<(Boxed<Stmt>, &[Piece]), Stop>
-    ensures { Gives (λ x. (x.0, x.1.now)) result (stmt_at deep (expr_at room) (init_at room (expr_at room)) pieces.now) }
+    terminals: &[Terminal],
+) -> Result<(Boxed<Stmt>, &[Terminal]), Stop>
+    ensures { Gives (λ x. (x.0, x.1.now)) result (stmt_at deep (expr_at room) (init_at room (expr_at room)) terminals.now) }
 {
     if deep == 0 {
         return Err(Stop::Unread);
     }
-    let [first, rest @ ..] = pieces else {
+    let [first, rest @ ..] = terminals else {
         return Err(Stop::Unread)
     };
     headed(
@@ -441,7 +461,7 @@ fn stmt_at(
         deep - 1,
         sign_head(&first.what),
         first.line,
-        pieces,
+        terminals,
         rest,
     )
 }

@@ -1,6 +1,6 @@
 -- The worked examples on cutting.
 use Rattle.std.proofs.Common.{◌≡◌, ℕ, List, [], ◌∷◌, ◌++◌, refl}
-use Rattle.cl_tree.specs.declared.grammar.Piece.{Piece}
+use Rattle.cl_tree.specs.declared.grammar.Terminal.{Terminal}
 use Rattle.cl_tree.specs.Items.{cut_from, cut}
 use Rattle.cl_plain.specs.Cutting.{name, int, pragma, semicolon, closing, begin, end, variable, head, structure, initialised}
 

@@ -13,7 +13,7 @@ use Rattle.cl_tree.specs.declared.kinds.BinOp.{BinOp}
 use Rattle.cl_plain.specs.Parts.{cast_part}
 use Rattle.cl_plain.proofs.Parts.{cast_then}
 
--- there is a first piece
+-- there is a first terminal
 abbrev Begun : Spelling → Type 0
 Begun [] = ⊥
 Begun (m ∷ ms) = Unit {0}
@@ -36,7 +36,7 @@ shape_at e n x h o =
 at_node : (e : Expr) (n : Node) (x : Node-F Node Expr) → e.node ≡ n → out-Node n ≡ x → (shape e).spelling ≡ (node_step (parts x) e.line e.second).spelling
 at_node e n x h o = ap (λ (s : Shape). s.spelling) (shape_at e n x h o)
 
--- further lines of the first piece
+-- further lines of the first terminal
 pub first_none : (ms : Spelling) → first_on [] ms ≡ ms
 first_none [] = refl
 first_none (m ∷ ms) = refl
@@ -68,7 +68,7 @@ begun_step (node.Paren e) line second = tt
 begun : (e : Expr) → Begun (shape e).spelling
 begun e = subst (λ (s : Shape). Begun s.spelling) (sym (shape_is e)) (begun_step (out-Node e.node) e.line e.second)
 
--- what is written for each form, where the first piece has further lines
+-- what is written for each form, where the first terminal has further lines
 on_node : (lines : List ℕ) (e : Expr) (n : Node) (x : Node-F Node Expr) → e.node ≡ n → out-Node n ≡ x → first_on lines (shape e).spelling ≡ first_on lines (node_step (parts x) e.line e.second).spelling
 on_node lines e n x h o = ap (first_on lines) (at_node e n x h o)
 

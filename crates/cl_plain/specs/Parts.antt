@@ -31,7 +31,7 @@ type_part lines t second = type_name lines t second []
 unfoldable pub cast_part : List ℕ → CType → ℕ → Spelling
 cast_part lines t second = mark_on (lines ++ other_lines (held_by t) second) mark.OpenParen (type_name [] t second (put_mark mark.CloseParen []))
 
--- the second line of a type's node, where a star has it, the floating type or another piece
+-- the second line of a type's node, where a star has it, the floating type or another terminal
 unfoldable pub star_line : CType → ℕ → List ℕ
 star_line t second = star_lines (held_by t) second
 
@@ -46,7 +46,7 @@ other_line t second = other_lines (held_by t) second
 unfoldable pub init_part : Option Init → Spelling
 init_part i = initialiser i
 
--- the lines of the floating base, and those of the first piece
+-- the lines of the floating base, and those of the first terminal
 abbrev pub floating_all : List Declarator → List ℕ
 floating_all = flat_map (λ d. floating_line d.ctype d.second)
 

@@ -20,7 +20,7 @@ want_of (Size n) = tree.size n
 abbrev pub wanted_of : Wanted → tree.Wanted
 wanted_of w = record { what = want_of w.what; lines = w.lines }
 
--- the spelling that a list of wanted pieces is
+-- the spelling that a list of wanted terminals is
 unfoldable pub written : List Wanted → tree.Spelling
 written ws = map wanted_of ws
 

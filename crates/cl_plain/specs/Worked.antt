@@ -36,11 +36,11 @@ on_lines a b c d e f = record {
   node = node.Binary Sub (record { line = c; second = d; node = node.Number 1 I32 }) (record { line = e; second = f; node = node.Number 2 I32 });
 }
 
--- a piece of one node, which has the line twice
+-- a terminal of one node, which has the line twice
 abbrev pub literal : ℕ → ℕ → Spelling → Spelling
 literal line value rest = put_on (line ∷ line ∷ []) (sign.Integer value I32) rest
 
--- 1 - 2 - 3; the first piece has the lines of the two differences too
+-- 1 - 2 - 3; the first terminal has the lines of the two differences too
 abbrev pub in_a_row : ℕ → Spelling
 in_a_row line = put_on (line ∷ line ∷ line ∷ line ∷ []) (sign.Integer 1 I32) (mark_at line Minus (literal line 2 (mark_at line Minus (literal line 3 []))))
 

@@ -22,7 +22,7 @@ use std::alloc::Global;
 /// Writes an initialiser without its `=` (C11 6.7.9).
 #[cycle(spell)]
 #[tactic(auto, unfolding(cl_tree::specs::Statements::init_shape))]
-pub fn write_init(alloc: Global, out: &mut Items<Wanted>, init: &Init) -> Result<(), NoMemory>
+fn write_init(alloc: Global, out: &mut Items<Wanted>, init: &Init) -> Result<(), NoMemory>
     ensures { OnOk result (written out.new ≡ written out.old ++ (init_shape init.now).spelling) }
 {
     match init {
@@ -52,7 +52,7 @@ fn write_inits(alloc: Global, out: &mut Items<Wanted>, all: &[Init]) -> Result<(
 /// Whether the initialiser has a form of the grammar: a list in braces is not empty.
 #[cycle(proper)]
 #[tactic(auto, unfolding(cl_tree::specs::Statements::init_shape))]
-pub fn well_formed_init(init: &Init) -> bool
+fn well_formed_init(init: &Init) -> bool
     ensures { result ≡ (init_shape init.now).proper }
 {
     match init {
@@ -144,7 +144,7 @@ pub fn add_base_lines(lines: &mut Items<u32>, names: &[Declarator]) -> Result<()
     Ok(())
 }
 
-/// Adds the lines of the first piece of the item or the innermost statement.
+/// Adds the lines of the first terminal of the item or the innermost statement.
 pub fn add_first_lines(lines: &mut Items<u32>, names: &[Declarator]) -> Result<(), NoMemory>
     ensures { OnOk result (lines.new ≡ lines.old ++ other_all names.now) }
 {
@@ -192,7 +192,7 @@ fn write_specifiers(
     write_common_base(alloc, out, lines, names)
 }
 
-/// Writes a declaration without its `;`. `lines` are further ones of its first piece.
+/// Writes a declaration without its `;`. `lines` are further ones of its first terminal.
 #[tactic(auto, using(crate::proofs::DeclarationParts::declaration_rules))]
 pub fn write_declaration(
     alloc: Global,

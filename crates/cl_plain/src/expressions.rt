@@ -1,12 +1,13 @@
 //! How expressions are spelled, and which are well-formed.
 
 ghost use Rattle.std.specs.Prelude.{◌≡◌, ◌++◌, [], ◌∷◌, map, OnOk, IfOk};
-ghost use Rattle.cl_tree.specs.Spelling.{shape, put_on, first_on, commas, all_proper, binds, unary_mark, binary_mark};
+ghost use Rattle.cl_tree.specs.Spelling.{shape, put_on, first_on, commas, all_proper, unary_mark, binary_mark};
 ghost use Rattle.cl_plain.specs.Wanting.{written};
 
 use crate::types::{is_type_name, write_cast};
 use crate::wanted::{Wanted, write_mark, write_mark_at, write_name, write_on};
 use cl_base::name::NoMemory;
+use cl_terminals::operators::binds;
 use cl_tree::grammar::Sign;
 use cl_tree::kinds::{BinOp, UnOp};
 use cl_tree::token::Mark;
@@ -15,7 +16,7 @@ use sqlite_items::{Boxed, Items};
 use std::alloc::Global;
 
 /// The mark of a prefix operator (C11 6.5.3).
-pub fn unary_mark(op: UnOp) -> Mark
+fn unary_mark(op: UnOp) -> Mark
     ensures { result ≡ unary_mark op }
 {
     match op {
@@ -29,7 +30,7 @@ pub fn unary_mark(op: UnOp) -> Mark
 }
 
 /// The mark of a binary operator (C11 6.5.5 to 6.5.14).
-pub fn binary_mark(op: BinOp) -> Mark
+fn binary_mark(op: BinOp) -> Mark
     ensures { result ≡ binary_mark op }
 {
     match op {
@@ -54,28 +55,10 @@ pub fn binary_mark(op: BinOp) -> Mark
     }
 }
 
-/// How tightly an operator binds: from 2 for `||` to 11 for `*`, `/` and `%` (C11 6.5.5 to 6.5.14).
-pub fn binds(op: BinOp) -> u32
-    ensures { result ≡ binds op }
-{
-    match op {
-        BinOp::Or => 2,
-        BinOp::And => 3,
-        BinOp::BitOr => 4,
-        BinOp::Xor => 5,
-        BinOp::BitAnd => 6,
-        BinOp::Equal | BinOp::Unequal => 7,
-        BinOp::Less | BinOp::Greater | BinOp::AtMost | BinOp::AtLeast => 8,
-        BinOp::Left | BinOp::Right => 9,
-        BinOp::Add | BinOp::Sub => 10,
-        BinOp::Mul | BinOp::Div | BinOp::Rem => 11,
-    }
-}
-
 /// How tightly an expression binds: 1 a choice, 2 to 11 the binary operators, 12 a cast, 13 a prefix
 /// operator, 14 all else.
 #[tactic(auto, unfolding(cl_tree::specs::Spelling::shape))]
-pub fn level(e: &Expr) -> u32
+pub(crate) fn level(e: &Expr) -> u32
     ensures { result ≡ (shape e.now).level }
 {
     match &e.node {
@@ -87,7 +70,7 @@ pub fn level(e: &Expr) -> u32
     }
 }
 
-/// Writes the first piece of an expression, which stands on further lines and on both of the node's.
+/// Writes the first terminal of an expression, which stands on further lines and on both of the node's.
 fn write_begin(
     out: &mut Items<Wanted>,
     lines: Items<u32>,
@@ -114,16 +97,16 @@ fn further(lines: Items<u32>, line: u32) -> Result<Items<u32>, NoMemory>
 /// Writes an expression.
 #[cycle(spell)]
 #[tactic(auto, using(crate::proofs::Shapes::first_none))]
-pub fn write_expr(alloc: Global, out: &mut Items<Wanted>, e: &Expr) -> Result<(), NoMemory>
+pub(crate) fn write_expr(alloc: Global, out: &mut Items<Wanted>, e: &Expr) -> Result<(), NoMemory>
     ensures { OnOk result (written out.new ≡ written out.old ++ (shape e.now).spelling) }
 {
     write_expr_on(alloc, out, Items::new(alloc), e)
 }
 
-/// Writes an expression, whose first piece stands on further lines.
+/// Writes an expression, whose first terminal stands on further lines.
 #[cycle(spell)]
 #[tactic(auto, unfolding(cl_tree::specs::Spelling::shape))]
-pub fn write_expr_on(
+pub(crate) fn write_expr_on(
     alloc: Global,
     out: &mut Items<Wanted>,
     lines: Items<u32>,
@@ -206,10 +189,10 @@ fn write_arguments(alloc: Global, out: &mut Items<Wanted>, all: &[Expr]) -> Resu
     Ok(())
 }
 
-/// The pieces that an expression wants.
+/// The terminals that an expression wants.
 #[tactic(auto, unfolding(crate::specs::Wanting::written))]
 pub fn spelled_expr(alloc: Global, e: &Expr) -> Result<Items<Wanted>, NoMemory>
-    ensures { IfOk result (λ pieces. written pieces ≡ (shape e.now).spelling) }
+    ensures { IfOk result (λ terminals. written terminals ≡ (shape e.now).spelling) }
 {
     let mut out = Items::new(alloc);
     write_expr(alloc, &mut out, e)?;

@@ -161,7 +161,7 @@ fn write_body(
 
 /// Writes an item.
 #[tactic(auto, unfolding(cl_tree::specs::Items::item_spelling))]
-pub fn write_item(alloc: Global, out: &mut Items<Wanted>, item: &Item) -> Result<(), NoMemory>
+fn write_item(alloc: Global, out: &mut Items<Wanted>, item: &Item) -> Result<(), NoMemory>
     ensures { OnOk result (written out.new ≡ written out.old ++ item_spelling item.now) }
 {
     match item {
@@ -207,10 +207,10 @@ pub fn write_item(alloc: Global, out: &mut Items<Wanted>, item: &Item) -> Result
     }
 }
 
-/// The pieces that a program wants.
+/// The terminals that a program wants.
 #[tactic(auto, unfolding(crate::specs::Wanting::written, cl_tree::specs::Items::program_spelling))]
 pub fn spelled(alloc: Global, program: &Program) -> Result<Items<Wanted>, NoMemory>
-    ensures { IfOk result (λ pieces. written pieces ≡ program_spelling program.now) }
+    ensures { IfOk result (λ terminals. written terminals ≡ program_spelling program.now) }
 {
     let mut out = Items::new(alloc);
     write_items(alloc, &mut out, program.items.as_slice())?;
@@ -283,7 +283,7 @@ fn no_params(params: &[Declarator]) -> bool
 
 /// Whether the item has a form of the grammar.
 #[tactic(auto, unfolding(cl_tree::specs::Items::is_item))]
-pub fn is_item(item: &Item) -> bool
+fn is_item(item: &Item) -> bool
     ensures { result ≡ is_item item.now }
 {
     match item {
@@ -306,19 +306,19 @@ pub fn is_item(item: &Item) -> bool
     }
 }
 
-/// Whether the item has a form of the grammar, and each of its pieces can come out of a source.
+/// Whether the item has a form of the grammar, and each of its terminals can come out of a source.
 #[tactic(auto, unfolding(cl_tree::specs::Items::is_well_formed, crate::specs::Wanting::written))]
-pub fn well_formed_item(alloc: Global, item: &Item) -> Result<bool, NoMemory>
+fn well_formed_item(alloc: Global, item: &Item) -> Result<bool, NoMemory>
     ensures { IfOk result (λ well. well ≡ is_well_formed item.now) }
 {
-    let pieces = spelled_item(alloc, item)?;
-    Ok(is_item(item) && all_come(pieces.as_slice()))
+    let terminals = spelled_item(alloc, item)?;
+    Ok(is_item(item) && all_come(terminals.as_slice()))
 }
 
-/// The pieces that an item wants.
+/// The terminals that an item wants.
 #[tactic(auto, unfolding(crate::specs::Wanting::written))]
-pub fn spelled_item(alloc: Global, item: &Item) -> Result<Items<Wanted>, NoMemory>
-    ensures { IfOk result (λ pieces. written pieces ≡ item_spelling item.now) }
+fn spelled_item(alloc: Global, item: &Item) -> Result<Items<Wanted>, NoMemory>
+    ensures { IfOk result (λ terminals. written terminals ≡ item_spelling item.now) }
 {
     let mut out = Items::new(alloc);
     write_item(alloc, &mut out, item)?;

@@ -2,7 +2,7 @@
 //! yardstick for later bodies, and worked examples of the definitions.
 #![tactic(auto)]
 
-pub mod declarations;
+mod declarations;
 pub mod examples;
 pub mod expressions;
 pub mod items;

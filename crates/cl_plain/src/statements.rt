@@ -10,7 +10,7 @@ use crate::declarations::{well_formed_declaration, write_declaration};
 use crate::expressions::{level, well_formed_expr, write_expr, write_expr_on};
 use crate::wanted::{Wanted, one_line, two_lines, write_key, write_mark, write_mark_at, write_on};
 use cl_base::name::NoMemory;
-use cl_pieces::pieces::copy_pragma;
+use cl_terminals::terminals::copy_pragma;
 use cl_tree::grammar::{Keyword, Sign};
 use cl_tree::kinds::BinOp;
 use cl_tree::token::{Mark, Pragma};
@@ -19,7 +19,7 @@ use sqlite_items::{Boxed, Items};
 use std::alloc::Global;
 
 /// The mark of an assignment (C11 6.5.16); of an operator that has none, that of `=`.
-pub fn assign_mark(op: &Option<BinOp>) -> Mark
+fn assign_mark(op: &Option<BinOp>) -> Mark
     ensures { result ≡ assign_mark op.now }
 {
     match op {
@@ -38,7 +38,7 @@ pub fn assign_mark(op: &Option<BinOp>) -> Mark
 }
 
 /// Whether there is such an assignment.
-pub fn assigns(op: &Option<BinOp>) -> bool
+fn assigns(op: &Option<BinOp>) -> bool
     ensures { result ≡ assigns op.now }
 {
     match op {
@@ -55,14 +55,14 @@ pub fn assigns(op: &Option<BinOp>) -> bool
 }
 
 /// `++` or `--`.
-pub fn bump_mark(up: bool) -> Mark
+fn bump_mark(up: bool) -> Mark
     ensures { result ≡ bump_mark up }
 {
     if up { Mark::PlusPlus } else { Mark::MinusMinus }
 }
 
 /// Writes a line `#pragma cle`, which stands on these lines.
-pub fn write_pragma(
+pub(crate) fn write_pragma(
     alloc: Global,
     out: &mut Items<Wanted>,
     lines: Items<u32>,
@@ -74,7 +74,7 @@ pub fn write_pragma(
     write_on(out, lines, Sign::Cle(pragma))
 }
 
-/// Writes the first piece of a statement, which stands on both of its lines.
+/// Writes the first terminal of a statement, which stands on both of its lines.
 fn write_begin(alloc: Global, out: &mut Items<Wanted>, s: &Stmt, what: Sign) -> Result<(), NoMemory>
     ensures { OnOk result (written out.new ≡ written out.old ++ put_on (s.now.line ∷ s.now.second ∷ []) what []) }
 {
@@ -84,7 +84,7 @@ fn write_begin(alloc: Global, out: &mut Items<Wanted>, s: &Stmt, what: Sign) -> 
 
 /// Writes what stands before the `;` of a simple statement or a declaration, and nothing of another.
 #[tactic(auto, unfolding(cl_tree::specs::Statements::stmt_shape))]
-pub fn write_bare(alloc: Global, out: &mut Items<Wanted>, s: &Stmt) -> Result<(), NoMemory>
+fn write_bare(alloc: Global, out: &mut Items<Wanted>, s: &Stmt) -> Result<(), NoMemory>
     ensures { OnOk result (written out.new ≡ written out.old ++ (stmt_shape s.now).bare) }
 {
     match &s.node {
@@ -167,7 +167,7 @@ fn write_next(
 /// Writes a statement (C11 6.8).
 #[cycle(spell)]
 #[tactic(auto, unfolding(cl_tree::specs::Statements::stmt_shape))]
-pub fn write_stmt(alloc: Global, out: &mut Items<Wanted>, s: &Stmt) -> Result<(), NoMemory>
+fn write_stmt(alloc: Global, out: &mut Items<Wanted>, s: &Stmt) -> Result<(), NoMemory>
     ensures { OnOk result (written out.new ≡ written out.old ++ (stmt_shape s.now).spelling) }
 {
     match &s.node {
@@ -269,7 +269,7 @@ fn write_else(
 
 /// Writes the statements of a block, and its end.
 #[cycle(spell)]
-pub fn write_statements(
+pub(crate) fn write_statements(
     alloc: Global,
     out: &mut Items<Wanted>,
     all: &[Stmt],
@@ -284,7 +284,7 @@ pub fn write_statements(
 
 /// What may stand where the grammar asks for a statement.
 #[tactic(auto, unfolding(cl_tree::specs::Statements::stmt_shape))]
-pub fn is_statement(s: &Stmt) -> bool
+fn is_statement(s: &Stmt) -> bool
     ensures { result ≡ is_statement (stmt_shape s.now).form }
 {
     match &s.node {
@@ -296,7 +296,7 @@ pub fn is_statement(s: &Stmt) -> bool
 
 /// What may stand last in the head of a `for`.
 #[tactic(auto, unfolding(cl_tree::specs::Statements::stmt_shape))]
-pub fn is_simple(s: &Stmt) -> bool
+fn is_simple(s: &Stmt) -> bool
     ensures { result ≡ is_simple (stmt_shape s.now).form }
 {
     match &s.node {
@@ -309,7 +309,7 @@ pub fn is_simple(s: &Stmt) -> bool
 
 /// What may stand first in the head of a `for`.
 #[tactic(auto, unfolding(cl_tree::specs::Statements::stmt_shape))]
-pub fn is_head(s: &Stmt) -> bool
+fn is_head(s: &Stmt) -> bool
     ensures { result ≡ is_head (stmt_shape s.now).form }
 {
     match &s.node {
@@ -323,7 +323,7 @@ pub fn is_head(s: &Stmt) -> bool
 
 /// Whether it ends in an `if` without `else`.
 #[tactic(auto, unfolding(cl_tree::specs::Statements::stmt_shape))]
-pub fn is_dangling(s: &Stmt) -> bool
+fn is_dangling(s: &Stmt) -> bool
     ensures { result ≡ (stmt_shape s.now).dangling }
 {
     match &s.node {
@@ -337,7 +337,7 @@ pub fn is_dangling(s: &Stmt) -> bool
 
 /// Whether the expression is a call.
 #[tactic(auto, unfolding(cl_tree::specs::Statements::is_call))]
-pub fn is_call(e: &Expr) -> bool
+fn is_call(e: &Expr) -> bool
     ensures { result ≡ is_call e.now }
 {
     match &e.node {
@@ -424,7 +424,7 @@ fn is_next(next: &Option<Boxed<Stmt>>) -> bool
 
 /// Whether all are well-formed.
 #[cycle(proper)]
-pub fn all_stmts(all: &[Stmt]) -> bool
+pub(crate) fn all_stmts(all: &[Stmt]) -> bool
     ensures { result ≡ all_stmts (map stmt_shape all.now) }
 {
     for s in all {

@@ -15,7 +15,7 @@ use sqlite_items::{Boxed, Items};
 use std::alloc::Global;
 
 /// Whose line the second one of a type's node is.
-#[derive(Clone, Copy, Debug, PartialEq, Eq)]
+#[derive(Clone, Copy, PartialEq, Eq)]
 pub enum Holder {
     Star,
     Floating,
@@ -24,7 +24,7 @@ pub enum Holder {
 
 /// Whose line the second one of this type's node is.
 #[tactic(auto, unfolding(cl_tree::specs::Spelling::type_shape))]
-pub fn second_holder(t: &CType) -> Holder
+fn second_holder(t: &CType) -> Holder
     ensures { holder_of result ≡ held_by t.now }
 {
     match t {
@@ -57,7 +57,7 @@ pub fn add_floating_line(lines: &mut Items<u32>, t: &CType, line: u32) -> Result
     Ok(())
 }
 
-/// Adds the line if a piece outside the type has it.
+/// Adds the line if a terminal outside the type has it.
 #[tactic(auto, unfolding(crate::specs::Parts::other_line))]
 pub fn add_other_line(lines: &mut Items<u32>, t: &CType, line: u32) -> Result<(), NoMemory>
     ensures { OnOk result (lines.new ≡ lines.old ++ other_line t.now line) }
@@ -129,7 +129,7 @@ pub fn write_dims(alloc: Global, out: &mut Items<Wanted>, t: &CType) -> Result<(
 
 /// Whether the type is no array.
 #[tactic(auto, unfolding(cl_tree::specs::Spelling::type_shape))]
-pub fn has_no_dims(t: &CType) -> bool
+fn has_no_dims(t: &CType) -> bool
     ensures { result ≡ is_empty (type_shape t.now).dims }
 {
     match t {
@@ -157,7 +157,7 @@ pub fn is_type_name(t: &CType) -> bool
     has_no_dims(t) && is_proper_type(t)
 }
 
-/// Writes a type with its stars; `lines` are those of its first piece, `second` the node's second.
+/// Writes a type with its stars; `lines` are those of its first terminal, `second` the node's second.
 #[tactic(auto, using(crate::proofs::Parts::type_rules))]
 pub fn write_type(
     alloc: Global,
@@ -177,7 +177,7 @@ pub fn write_type(
 }
 
 /// Writes the type of a cast in its parentheses; `lines` are those of the `(`, beside the second line
-/// of the cast's node where no piece of the type has it.
+/// of the cast's node where no terminal of the type has it.
 #[tactic(auto, using(crate::proofs::Parts::cast_rules))]
 pub fn write_cast(
     alloc: Global,
@@ -196,7 +196,7 @@ pub fn write_cast(
 }
 
 /// What the names of one declaration have in common, as a type shows it.
-#[derive(Clone, Copy, Debug)]
+#[derive(Clone, Copy)]
 pub enum Common<'a> {
     Void,
     Kind(IntKind),

@@ -1,4 +1,4 @@
-//! The pieces that a tree wants.
+//! The terminals that a tree wants.
 
 ghost use Rattle.std.specs.Prelude.{◌≡◌, ◌++◌, [], ◌∷◌, OnOk, IfOk};
 ghost use Rattle.cl_tree.specs.Spelling.{put_on, put, put_at, mark_on, mark_at, put_mark, key_on, put_key, put_size};
@@ -10,26 +10,30 @@ use cl_tree::token::Mark;
 use sqlite_items::Items;
 use std::alloc::Global;
 
-/// What is wanted of a piece.
-#[derive(Debug, Drop)]
+/// What is wanted of a terminal.
+#[derive(Drop)]
 pub enum Want {
-    /// The piece itself.
+    /// The terminal itself.
     Is(Sign),
     /// An integer literal of this value, of any kind: the size of an array.
     Size(u64),
 }
 
-/// A piece that a tree wants, with the lines that the tree keeps of it: the piece stands on each of
+/// A terminal that a tree wants, with the lines that the tree keeps of it: the terminal stands on each of
 /// them.
-#[derive(Debug, Drop)]
+#[derive(Drop)]
 pub struct Wanted {
     pub what: Want,
     pub lines: Items<u32>,
 }
 
-/// Writes a piece, which stands on these lines.
+/// Writes a terminal, which stands on these lines.
 #[tactic(auto, unfolding(crate::specs::Wanting::written))]
-pub fn write_on(out: &mut Items<Wanted>, lines: Items<u32>, what: Sign) -> Result<(), NoMemory>
+pub(crate) fn write_on(
+    out: &mut Items<Wanted>,
+    lines: Items<u32>,
+    what: Sign,
+) -> Result<(), NoMemory>
     ensures { OnOk result (written out.new ≡ written out.old ++ put_on lines what []) }
 {
     out.push(Wanted {
@@ -41,7 +45,7 @@ pub fn write_on(out: &mut Items<Wanted>, lines: Items<u32>, what: Sign) -> Resul
 
 /// Writes the size of an array.
 #[tactic(auto, unfolding(crate::specs::Wanting::written))]
-pub fn write_size(alloc: Global, out: &mut Items<Wanted>, size: u64) -> Result<(), NoMemory>
+pub(crate) fn write_size(alloc: Global, out: &mut Items<Wanted>, size: u64) -> Result<(), NoMemory>
     ensures { OnOk result (written out.new ≡ written out.old ++ put_size size []) }
 {
     let lines = Items::new(alloc);
@@ -53,7 +57,7 @@ pub fn write_size(alloc: Global, out: &mut Items<Wanted>, size: u64) -> Result<(
 }
 
 /// One line.
-pub fn one_line(alloc: Global, line: u32) -> Result<Items<u32>, NoMemory>
+pub(crate) fn one_line(alloc: Global, line: u32) -> Result<Items<u32>, NoMemory>
     ensures { IfOk result (λ lines. lines ≡ line ∷ []) }
 {
     let mut lines = Items::new(alloc);
@@ -62,7 +66,7 @@ pub fn one_line(alloc: Global, line: u32) -> Result<Items<u32>, NoMemory>
 }
 
 /// The two lines of a node.
-pub fn two_lines(alloc: Global, line: u32, second: u32) -> Result<Items<u32>, NoMemory>
+pub(crate) fn two_lines(alloc: Global, line: u32, second: u32) -> Result<Items<u32>, NoMemory>
     ensures { IfOk result (λ lines. lines ≡ line ∷ second ∷ []) }
 {
     let mut lines = one_line(alloc, line)?;
@@ -70,20 +74,15 @@ pub fn two_lines(alloc: Global, line: u32, second: u32) -> Result<Items<u32>, No
     Ok(lines)
 }
 
-/// Writes a piece of which no line is kept.
-pub fn write(alloc: Global, out: &mut Items<Wanted>, what: Sign) -> Result<(), NoMemory>
+/// Writes a terminal of which no line is kept.
+pub(crate) fn write(alloc: Global, out: &mut Items<Wanted>, what: Sign) -> Result<(), NoMemory>
     ensures { OnOk result (written out.new ≡ written out.old ++ put what []) }
 {
     write_on(out, Items::new(alloc), what)
 }
 
-/// Writes a piece, which stands on this line.
-pub fn write_at(
-    alloc: Global,
-    out: &mut Items<Wanted>,
-    line: u32,
-    what: Sign,
-) -> Result<(), NoMemory>
+/// Writes a terminal, which stands on this line.
+fn write_at(alloc: Global, out: &mut Items<Wanted>, line: u32, what: Sign) -> Result<(), NoMemory>
     ensures { OnOk result (written out.new ≡ written out.old ++ put_at line what []) }
 {
     let lines = one_line(alloc, line)?;
@@ -91,14 +90,14 @@ pub fn write_at(
 }
 
 /// Writes a mark of which no line is kept.
-pub fn write_mark(alloc: Global, out: &mut Items<Wanted>, mark: Mark) -> Result<(), NoMemory>
+pub(crate) fn write_mark(alloc: Global, out: &mut Items<Wanted>, mark: Mark) -> Result<(), NoMemory>
     ensures { OnOk result (written out.new ≡ written out.old ++ put_mark mark []) }
 {
     write(alloc, out, Sign::Mark(mark))
 }
 
 /// Writes a mark, which stands on this line.
-pub fn write_mark_at(
+pub(crate) fn write_mark_at(
     alloc: Global,
     out: &mut Items<Wanted>,
     line: u32,
@@ -110,14 +109,22 @@ pub fn write_mark_at(
 }
 
 /// Writes a keyword of which no line is kept.
-pub fn write_key(alloc: Global, out: &mut Items<Wanted>, key: Keyword) -> Result<(), NoMemory>
+pub(crate) fn write_key(
+    alloc: Global,
+    out: &mut Items<Wanted>,
+    key: Keyword,
+) -> Result<(), NoMemory>
     ensures { OnOk result (written out.new ≡ written out.old ++ put_key key []) }
 {
     write(alloc, out, Sign::Key(key))
 }
 
 /// Writes a name of which no line is kept.
-pub fn write_name(alloc: Global, out: &mut Items<Wanted>, name: &Name) -> Result<(), NoMemory>
+pub(crate) fn write_name(
+    alloc: Global,
+    out: &mut Items<Wanted>,
+    name: &Name,
+) -> Result<(), NoMemory>
     ensures { OnOk result (written out.new ≡ written out.old ++ put (Sign.Name name.now) []) }
 {
     let name = name.copy(alloc)?;
@@ -125,7 +132,7 @@ pub fn write_name(alloc: Global, out: &mut Items<Wanted>, name: &Name) -> Result
 }
 
 /// Writes a name, which stands on this line.
-pub fn write_name_at(
+pub(crate) fn write_name_at(
     alloc: Global,
     out: &mut Items<Wanted>,
     line: u32,

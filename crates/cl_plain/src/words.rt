@@ -1,11 +1,11 @@
-//! Whether all pieces of a spelling can come out of a source.
+//! Whether all terminals of a spelling can come out of a source.
 
 ghost use Rattle.std.specs.Prelude.{◌≡◌, ◌^◌, nat_lt};
 ghost use Rattle.cl_tree.specs.Spelling.{want_comes, all_come};
 ghost use Rattle.cl_plain.specs.Wanting.{want_of, written};
 
 use crate::wanted::{Want, Wanted};
-use cl_pieces::comes::comes;
+use cl_terminals::comes::comes;
 
 /// Any size of an array can be written.
 fn is_size(value: u64) -> bool
@@ -23,13 +23,13 @@ fn want_comes(want: &Want) -> bool
     }
 }
 
-/// Whether a source can bring all of the pieces.
+/// Whether a source can bring all of the terminals.
 #[tactic(auto, unfolding(cl_tree::specs::Spelling::all_come, crate::specs::Wanting::written))]
-pub fn all_come(pieces: &[Wanted]) -> bool
-    ensures { result ≡ all_come (written pieces.now) }
+pub fn all_come(terminals: &[Wanted]) -> bool
+    ensures { result ≡ all_come (written terminals.now) }
 {
-    for piece in pieces {
-        if !want_comes(&piece.what) {
+    for terminal in terminals {
+        if !want_comes(&terminal.what) {
             return false;
         }
     }

@@ -10,7 +10,7 @@ use std::alloc::{AllocError, Global};
 use std::marker::Model;
 
 /// Where an execution stands: the level of its function, and the kind of that function's result.
-#[derive(Clone, Copy, Debug, PartialEq, Eq)]
+#[derive(Clone, Copy, PartialEq, Eq)]
 pub struct Context {
     pub level: u32,
     pub returns: IntKind,
@@ -18,14 +18,14 @@ pub struct Context {
 
 /// What a run has done at one level: the bytes that it wrote, and the frame cost of the calls that it
 /// made to other levels.
-#[derive(Debug, Drop)]
+#[derive(Drop)]
 pub struct LevelState {
     pub output: Items<u8>,
     pub cost: u32,
 }
 
 /// An object of a level: its kind and its number.
-#[derive(Clone, Copy, Debug, PartialEq, Eq)]
+#[derive(Clone, Copy, PartialEq, Eq)]
 pub struct Object {
     pub level: u32,
     pub kind: IntKind,
@@ -33,7 +33,7 @@ pub struct Object {
 }
 
 /// The states of all levels, by the number of the level. Contracts see the list of them.
-#[derive(Debug, Drop)]
+#[derive(Drop)]
 pub struct LevelStates {
     levels: Vec<LevelState>,
 }
@@ -48,7 +48,7 @@ impl Model for LevelStates {
 }
 
 /// The objects of a run, by their number. Contracts see the list of them.
-#[derive(Debug, Drop)]
+#[derive(Drop)]
 pub struct Objects {
     objects: Vec<Object>,
 }
@@ -63,7 +63,7 @@ impl Model for Objects {
 }
 
 /// Everything that a run can change: the levels, the objects, and what has crossed between levels.
-#[derive(Debug, Drop)]
+#[derive(Drop)]
 pub struct State {
     pub levels: LevelStates,
     pub objects: Objects,

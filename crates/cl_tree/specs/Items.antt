@@ -6,7 +6,7 @@ use Rattle.cl_tree.specs.declared.token.Mark.TheVariants as mark
 use Rattle.cl_tree.specs.declared.grammar.Keyword.TheVariants as key
 use Rattle.cl_tree.specs.declared.grammar.Sign.{Sign}
 use Rattle.cl_tree.specs.declared.grammar.Sign.TheVariants as sign
-use Rattle.cl_tree.specs.declared.grammar.Piece.{Piece}
+use Rattle.cl_tree.specs.declared.grammar.Terminal.{Terminal}
 use Rattle.cl_tree.specs.declared.tree.CType.{CType}
 use Rattle.cl_tree.specs.declared.tree.Declarator.{Declarator}
 use Rattle.cl_tree.specs.declared.tree.Declaration.{Declaration}
@@ -74,7 +74,7 @@ is_item (item.Function is_static result name void_word params body line second) 
     is_type_name result && ((not void_word || is_empty params) && (all_parameters params && is_body body))
 is_item (item.Cle p line) = true
 
--- A well-formed item has a form of the grammar, and each of its pieces can come out of a source.
+-- A well-formed item has a form of the grammar, and each of its terminals can come out of a source.
 unfoldable pub is_well_formed : Item → Bool
 is_well_formed i = is_item i && all_come (item_spelling i)
 
@@ -102,7 +102,7 @@ pub data Effect : Type 0 where
   opens : Bracket → Effect
   closes : Bracket → Effect
   semicolon : Effect
-  directive : Effect
+  pragma_line : Effect
   none : Effect
 
 abbrev pub brace_after : Bool → Bracket
@@ -119,10 +119,10 @@ mark_effect after mark.CloseBrace = closes brace
 mark_effect after mark.Semicolon = semicolon
 mark_effect after _ = none
 
--- `after`: the piece before is a `)`
+-- `after`: the terminal before is a `)`
 abbrev pub effect : Bool → Sign → Effect
 effect after (sign.Mark m) = mark_effect after m
-effect after (sign.Cle p) = directive
+effect after (sign.Cle p) = pragma_line
 effect after _ = none
 
 abbrev pub is_partner : Bracket → Bracket → Bool
@@ -132,7 +132,7 @@ is_partner brace brace = true
 is_partner body brace = true
 is_partner _ _ = false
 
--- the open brackets behind a piece, the innermost first; one that matches no open bracket closes all
+-- the open brackets behind a terminal, the innermost first; one that matches no open bracket closes all
 abbrev pub open_after : List Bracket → Effect → List Bracket
 open_after bs (opens b) = b ∷ bs
 open_after [] (closes c) = []
@@ -143,40 +143,40 @@ abbrev pub is_body_bracket : Bracket → Bool
 is_body_bracket body = true
 is_body_bracket _ = false
 
--- Does the piece end its item?
+-- Does the terminal end its item?
 abbrev pub ends_item : List Bracket → Effect → Bool
 ends_item [] (closes c) = true
 ends_item (b ∷ bs) (closes c) = not (is_partner b c) || (is_body_bracket b && is_empty bs)
 ends_item [] semicolon = true
-ends_item [] directive = true
+ends_item [] pragma_line = true
 ends_item _ _ = false
 
 abbrev pub is_close : Sign → Bool
 is_close (sign.Mark mark.CloseParen) = true
 is_close _ = false
 
-abbrev pub is_directive_first : List Piece → Bool
-is_directive_first [] = false
-is_directive_first (p ∷ ps) = is_pragma_sign p.what
+abbrev pub is_pragma_first : List Terminal → Bool
+is_pragma_first [] = false
+is_pragma_first (p ∷ ps) = is_pragma_sign p.what
   where
     is_pragma_sign : Sign → Bool
     is_pragma_sign (sign.Cle p) = true
     is_pragma_sign _ = false
 
--- also where a directive outside brackets follows
-abbrev pub ends_here : List Bracket → Effect → List Piece → Bool
-ends_here bs e next = ends_item bs e || (is_empty (open_after bs e) && is_directive_first next)
+-- also where a pragma line outside brackets follows
+abbrev pub ends_here : List Bracket → Effect → List Terminal → Bool
+ends_here bs e next = ends_item bs e || (is_empty (open_after bs e) && is_pragma_first next)
 
--- A piece is its item's last, or belongs to the item of the next.
-abbrev pub joined : Bool → Piece → List (List Piece) → List (List Piece)
+-- A terminal is its item's last, or belongs to the item of the next.
+abbrev pub joined : Bool → Terminal → List (List Terminal) → List (List Terminal)
 joined true p items = (p ∷ []) ∷ items
 joined false p [] = (p ∷ []) ∷ []
 joined false p (i ∷ items) = (p ∷ i) ∷ items
 
-unfoldable pub cut_from : List Bracket → Bool → List Piece → List (List Piece)
+unfoldable pub cut_from : List Bracket → Bool → List Terminal → List (List Terminal)
 cut_from bs after [] = []
 cut_from bs after (p ∷ ps) = joined (ends_here bs (effect after p.what) ps) p (cut_from (open_after bs (effect after p.what)) (is_close p.what) ps)
 
--- The pieces of each item.
-unfoldable pub cut : List Piece → List (List Piece)
+-- The terminals of each item.
+unfoldable pub cut : List Terminal → List (List Terminal)
 cut ps = cut_from [] false ps

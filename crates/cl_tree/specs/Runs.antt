@@ -1,11 +1,11 @@
--- The pieces of tokens: each longest run of type words is one piece, and each other token is one.
+-- The terminals of tokens: each longest run of type words is one terminal, and each other token is one.
 use Rattle.std.specs.Prelude.{ℕ, List, [], ◌∷◌, ◌++◌, Bool, true, false, if◌then◌else◌}
 use Rattle.cl_tree.specs.declared.token.Lexeme.{Lexeme}
 use Rattle.cl_tree.specs.declared.token.Lexeme.TheVariants as lexeme
 use Rattle.cl_tree.specs.declared.token.Token.{Token}
 use Rattle.cl_tree.specs.declared.grammar.Sign.{Sign}
 use Rattle.cl_tree.specs.declared.grammar.Sign.TheVariants as sign
-use Rattle.cl_tree.specs.declared.grammar.Piece.{Piece}
+use Rattle.cl_tree.specs.declared.grammar.Terminal.{Terminal}
 use Rattle.cl_tree.specs.Words.{Word, is_type_word, spelled_type, spelled_word}
 
 abbrev pub is_type : Lexeme → Bool
@@ -31,16 +31,16 @@ single (lexeme.Text bytes) = sign.Text bytes
 single (lexeme.Mark mark) = sign.Mark mark
 single (lexeme.Cle pragma) = sign.Cle pragma
 
-abbrev pub piece : ℕ → Sign → Piece
-piece line what = record { line = line; what = what }
+abbrev pub terminal : ℕ → Sign → Terminal
+terminal line what = record { line = line; what = what }
 
--- `within`: the token before is a type word, and so its run has its piece
-unfoldable pub pieces_from : Bool → List Token → List Piece
-pieces_from within [] = []
-pieces_from within (t ∷ ts) =
+-- `within`: the token before is a type word, and so its run has its terminal
+unfoldable pub terminals_from : Bool → List Token → List Terminal
+terminals_from within [] = []
+terminals_from within (t ∷ ts) =
     if is_type t.what
-    then (if within then pieces_from true ts else piece t.line (spelled_type (word_of t.what ++ more_words ts)) ∷ pieces_from true ts)
-    else piece t.line (single t.what) ∷ pieces_from false ts
+    then (if within then terminals_from true ts else terminal t.line (spelled_type (word_of t.what ++ more_words ts)) ∷ terminals_from true ts)
+    else terminal t.line (single t.what) ∷ terminals_from false ts
 
-unfoldable pub pieces : List Token → List Piece
-pieces tokens = pieces_from false tokens
+unfoldable pub terminals : List Token → List Terminal
+terminals tokens = terminals_from false tokens

@@ -1,4 +1,4 @@
--- How types and expressions are spelled as pieces, line by line, and which are well-formed.
+-- How types and expressions are spelled as terminals, line by line, and which are well-formed.
 use Rattle.std.specs.Prelude.{◌≡◌, ℕ, zero, suc, ◌^◌, List, [], ◌∷◌, ◌++◌, map, Bool, true, false, ◌&&◌, nat_le, nat_lt, bytes_eq}
 use Rattle.std.specs.List.{flat_map}
 use denote.Enum.Bare.{sameb}
@@ -15,7 +15,7 @@ use Rattle.cl_tree.specs.declared.grammar.Base.{Base}
 use Rattle.cl_tree.specs.declared.grammar.Base.TheVariants as base
 use Rattle.cl_tree.specs.declared.grammar.Sign.{Sign}
 use Rattle.cl_tree.specs.declared.grammar.Sign.TheVariants as sign
-use Rattle.cl_tree.specs.declared.grammar.Piece.{Piece}
+use Rattle.cl_tree.specs.declared.grammar.Terminal.{Terminal}
 use Rattle.cl_tree.specs.declared.tree.CType.{CType, CType-F, fold-CType}
 use Rattle.cl_tree.specs.declared.tree.CType.TheOpen as ctype
 use Rattle.cl_tree.specs.declared.tree.Expr.{Expr, fold-Expr}
@@ -25,7 +25,7 @@ use Rattle.cl_tree.specs.Words.{comes, is_literal}
 
 -- ---- spellings
 
--- What a tree wants of a piece: what it is; of the size of an array only the value, since the tree keeps no kind.
+-- What a tree wants of a terminal: what it is; of the size of an array only the value, since the tree keeps no kind.
 pub data Want : Type 0 where
   is : Sign → Want
   size : ℕ → Want
@@ -59,16 +59,13 @@ put_mark m rest = put (sign.Mark m) rest
 abbrev pub key_on : List ℕ → Keyword → Spelling → Spelling
 key_on lines k rest = put_on lines (sign.Key k) rest
 
-abbrev pub key_at : ℕ → Keyword → Spelling → Spelling
-key_at line k rest = put_at line (sign.Key k) rest
-
 abbrev pub put_key : Keyword → Spelling → Spelling
 put_key k rest = put (sign.Key k) rest
 
 abbrev pub put_size : ℕ → Spelling → Spelling
 put_size n rest = record { what = size n; lines = [] } ∷ rest
 
--- The first piece stands on these lines too.
+-- The first terminal stands on these lines too.
 abbrev pub first_on : List ℕ → Spelling → Spelling
 first_on lines [] = []
 first_on lines (w ∷ ws) = record { what = w.what; lines = lines ++ w.lines } ∷ ws
@@ -78,7 +75,7 @@ abbrev pub commas : List Spelling → Spelling
 commas [] = []
 commas (x ∷ xs) = x ++ flat_map (put_mark mark.Comma) xs
 
--- A piece is what is wanted. The size of an array is any literal of its value.
+-- A terminal is what is wanted. The size of an array is any literal of its value.
 abbrev pub Meets : Want → Sign → Type 0
 Meets (is s) x = x ≡ s
 Meets (size n) (sign.Integer value kind) = (value ≡ n) × (is_literal value kind ≡ true)
@@ -89,11 +86,11 @@ abbrev pub Fits : List ℕ → ℕ → Type 0
 Fits [] line = Unit {0}
 Fits (l ∷ ls) line = (line ≡ l) × Fits ls line
 
--- The pieces begin with what is wanted, and then the rest stands.
-abbrev pub Reads : Spelling → List Piece → List Piece → Type 0
-Reads [] pieces rest = pieces ≡ rest
+-- The terminals begin with what is wanted, and then the rest stands.
+abbrev pub Reads : Spelling → List Terminal → List Terminal → Type 0
+Reads [] terminals rest = terminals ≡ rest
 Reads (w ∷ ws) [] rest = ⊥
-Reads (w ∷ ws) (p ∷ pieces) rest = Meets w.what p.what × Fits w.lines p.line × Reads ws pieces rest
+Reads (w ∷ ws) (p ∷ terminals) rest = Meets w.what p.what × Fits w.lines p.line × Reads ws terminals rest
 
 -- a source can bring it
 abbrev pub want_comes : Want → Bool
@@ -183,7 +180,7 @@ other_lines _ line = []
 abbrev pub held_by : CType → Holder
 held_by t = holder (type_shape t).stars (type_shape t).base
 
--- a type with its stars, whose second line is given; `lines` are further ones of its first piece
+-- a type with its stars, whose second line is given; `lines` are further ones of its first terminal
 abbrev pub type_name : List ℕ → CType → ℕ → Spelling → Spelling
 type_name lines t second rest = base_on (lines ++ floating_lines (held_by t) second) (type_shape t).base (stars_on (star_lines (held_by t) second) (type_shape t).stars rest)
 
@@ -242,7 +239,7 @@ binds binary.Mul = 11
 binds binary.Div = 11
 binds binary.Rem = 11
 
--- What is to be known of an expression. Its spelling says on which lines its pieces stand; whether it is well-formed rests on no line.
+-- What is to be known of an expression. Its spelling says on which lines its terminals stand; whether it is well-formed rests on no line.
 pub record Shape : Type 0 where
   pub level : ℕ
   pub spelling : Spelling
@@ -252,12 +249,12 @@ abbrev pub all_proper : List Shape → Bool
 all_proper [] = true
 all_proper (s ∷ ss) = s.proper && all_proper ss
 
--- one piece, which is the whole expression
+-- one terminal, which is the whole expression
 abbrev pub leaf : Sign → ℕ → ℕ → Shape
 leaf s line second = record { level = 14; spelling = put_on (line ∷ second ∷ []) s []; proper = true }
 
--- One level of an expression, of which the line and the second line are given. The first piece stands on the line; on the second line
--- stands the piece that it is kept for, and else the first piece too.
+-- One level of an expression, of which the line and the second line are given. The first terminal stands on the line; on the second line
+-- stands the terminal that it is kept for, and else the first terminal too.
 abbrev pub node_step : Node-F (ℕ → ℕ → Shape) Shape → ℕ → ℕ → Shape
 node_step (node.Number value kind) line second = leaf (sign.Integer value kind) line second
 node_step node.Real line second = leaf sign.Floating line second

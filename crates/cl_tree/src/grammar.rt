@@ -1,4 +1,4 @@
-//! The pieces that the grammar speaks of: tokens, with each longest run of type words taken as one.
+//! The terminals that the grammar speaks of: tokens, with each longest run of type words taken as one.
 
 use crate::bytes::Bytes;
 use crate::kinds::IntKind;
@@ -23,7 +23,7 @@ pub enum Keyword {
     Unused,
 }
 
-/// What a piece is.
+/// What a terminal is.
 #[derive(Debug, Drop)]
 pub enum Sign {
     /// A word that is neither a keyword nor a type word.
@@ -47,15 +47,15 @@ pub enum Sign {
     Cle(Pragma),
 }
 
-/// A piece. `line` is that of its first token.
-#[derive(Debug, Drop)]
-pub struct Piece {
+/// A terminal. `line` is that of its first token.
+#[derive(Drop)]
+pub struct Terminal {
     pub line: u32,
     pub what: Sign,
 }
 
 /// What the declarators of one declaration have in common.
-#[derive(Debug, Drop)]
+#[derive(Drop)]
 pub enum Base {
     Void,
     Kind(IntKind),

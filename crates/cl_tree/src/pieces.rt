@@ -5,7 +5,7 @@ use crate::token::Lexeme;
 use cl_base::name::Name;
 
 /// The rules that a source can break before it is read as a program.
-#[derive(Clone, Copy, Debug, PartialEq, Eq)]
+#[derive(Clone, Copy, PartialEq, Eq)]
 pub enum Rule {
     /// A byte is not allowed.
     E02,
@@ -20,7 +20,7 @@ pub enum Rule {
 }
 
 /// A class of pieces that go on as long as each byte fits to the one before it.
-#[derive(Clone, Copy, Debug, PartialEq, Eq)]
+#[derive(Clone, Copy, PartialEq, Eq)]
 pub enum Run {
     /// A name.
     Letters,
@@ -33,7 +33,7 @@ pub enum Run {
 }
 
 /// A class of pieces that end at the first close.
-#[derive(Clone, Copy, Debug, PartialEq, Eq)]
+#[derive(Clone, Copy, PartialEq, Eq)]
 pub enum Closed {
     /// A comment between `/*` and `*/`.
     Comment,
@@ -44,7 +44,7 @@ pub enum Closed {
 }
 
 /// The class of a piece, which its first two bytes choose.
-#[derive(Clone, Copy, Debug, PartialEq, Eq)]
+#[derive(Clone, Copy, PartialEq, Eq)]
 pub enum Opening {
     Runs(Run),
     Closes(Closed),
@@ -56,7 +56,7 @@ pub enum Opening {
 }
 
 /// What a byte inside a closed piece does: the piece goes on, ends with it, or cannot have it.
-#[derive(Clone, Copy, Debug, PartialEq, Eq)]
+#[derive(Clone, Copy, PartialEq, Eq)]
 pub enum Next {
     /// It goes on; the flag says whether a star, or a backslash, stands before the next byte.
     More(bool),
@@ -65,7 +65,7 @@ pub enum Next {
 }
 
 /// Where a byte stands in the source as it came.
-#[derive(Clone, Copy, Debug, PartialEq, Eq)]
+#[derive(Clone, Copy, PartialEq, Eq)]
 pub struct Place {
     pub line: u32,
     pub start: u32,
@@ -73,7 +73,7 @@ pub struct Place {
 }
 
 /// Where the list of types of an integer literal begins, by its suffix (C11 6.4.4.1).
-#[derive(Clone, Copy, Debug, PartialEq, Eq)]
+#[derive(Clone, Copy, PartialEq, Eq)]
 pub enum Width {
     Int,
     Long,
@@ -81,14 +81,14 @@ pub enum Width {
 }
 
 /// What the literal of a `#define` means.
-#[derive(Clone, Copy, Debug, PartialEq, Eq)]
+#[derive(Clone, Copy, PartialEq, Eq)]
 pub enum Literal {
     Number { value: u64, kind: IntKind },
     Byte(u8),
 }
 
 /// What the bytes of an integer literal or a character constant mean.
-#[derive(Clone, Copy, Debug, PartialEq, Eq)]
+#[derive(Clone, Copy, PartialEq, Eq)]
 pub enum LiteralValue {
     /// It is none.
     Wrong,
@@ -98,7 +98,7 @@ pub enum LiteralValue {
 }
 
 /// What stands behind a backslash (C11 6.4.4.4), and how many bytes spell it there.
-#[derive(Clone, Copy, Debug, PartialEq, Eq)]
+#[derive(Clone, Copy, PartialEq, Eq)]
 pub enum Escape {
     NoEscape,
     /// A value above 255.
@@ -122,7 +122,7 @@ pub const ESCAPES: [(u8, u8); 11] = [
 ];
 
 /// Where in a directive line a byte stands.
-#[derive(Clone, Copy, Debug, PartialEq, Eq)]
+#[derive(Clone, Copy, PartialEq, Eq)]
 pub enum Part {
     /// In no comment.
     Code,
@@ -135,7 +135,7 @@ pub enum Part {
 }
 
 /// What a piece means.
-#[derive(Debug, Drop)]
+#[derive(Drop)]
 pub enum PieceMeaning {
     Blank,
     /// It breaks a rule at this byte of it.

@@ -135,7 +135,7 @@ pub fn is_cle_word(word: &[u8]) -> bool
 }
 
 /// What a token is.
-#[derive(Debug, Drop)]
+#[derive(Drop)]
 pub enum Lexeme {
     /// A name, a keyword or a type word.
     Word(Name),
@@ -153,7 +153,7 @@ pub enum Lexeme {
 
 /// A token. `start` and `end` are places in the source as it came, counted in bytes from 0;
 /// `line` is the line of its first byte, counted from 1.
-#[derive(Debug, Drop)]
+#[derive(Drop)]
 pub struct Token {
     pub line: u32,
     pub start: u32,

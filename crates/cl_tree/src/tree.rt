@@ -8,7 +8,7 @@ use cl_base::name::Name;
 use sqlite_items::{Boxed, Items};
 
 /// A type as it is written.
-#[derive(Debug, Drop)]
+#[derive(Drop)]
 pub enum CType {
     Void,
     Integer(IntKind),
@@ -21,7 +21,7 @@ pub enum CType {
 /// An expression. `second` is the line of the operator of a binary operator, of the `[` of an index,
 /// of the `->` of an arrow, and of the first `*` of a cast's type (else of a floating type in it).
 #[cycle(expr)]
-#[derive(Debug, Drop)]
+#[derive(Drop)]
 pub struct Expr {
     pub line: u32,
     pub second: u32,
@@ -29,7 +29,7 @@ pub struct Expr {
 }
 
 #[cycle(expr)]
-#[derive(Debug, Drop)]
+#[derive(Drop)]
 pub enum Node {
     Number { value: u64, kind: IntKind },
     Real,
@@ -48,7 +48,7 @@ pub enum Node {
 }
 
 /// What stands behind the `=` of a declarator.
-#[derive(Debug, Drop)]
+#[derive(Drop)]
 pub enum Init {
     One(Expr),
     Many(Items<Init>),
@@ -56,7 +56,7 @@ pub enum Init {
 
 /// One name of a declaration. `line` is the name's; `second` is that of the first `*` of its type,
 /// else of a floating type, else of the first token of its item or innermost statement.
-#[derive(Debug, Drop)]
+#[derive(Drop)]
 pub struct Declarator {
     pub name: Name,
     pub ctype: CType,
@@ -65,7 +65,7 @@ pub struct Declarator {
     pub second: u32,
 }
 
-#[derive(Debug, Drop)]
+#[derive(Drop)]
 pub struct Declaration {
     pub is_static: bool,
     pub names: Items<Declarator>,
@@ -73,7 +73,7 @@ pub struct Declaration {
 
 /// A statement. `second` is the line of the operator of an assignment, `++` or `--`.
 #[cycle(stmt)]
-#[derive(Debug, Drop)]
+#[derive(Drop)]
 pub struct Stmt {
     pub line: u32,
     pub second: u32,
@@ -81,7 +81,7 @@ pub struct Stmt {
 }
 
 #[cycle(stmt)]
-#[derive(Debug, Drop)]
+#[derive(Drop)]
 pub enum Act {
     Empty,
     Block(Items<Stmt>),
@@ -117,7 +117,7 @@ pub enum Act {
 
 /// What stands at file level. `line` is that of its first token. A function's `second` is the line of
 /// its name, or of the first `*` of its result's type, else of a floating type there.
-#[derive(Debug, Drop)]
+#[derive(Drop)]
 pub enum Item {
     Struct {
         name: Name,
@@ -139,7 +139,7 @@ pub enum Item {
 }
 
 /// A source, by its items in order.
-#[derive(Debug, Drop)]
+#[derive(Drop)]
 pub struct Program {
     pub items: Items<Item>,
 }

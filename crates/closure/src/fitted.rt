@@ -1,6 +1,7 @@
 //! Files that fit the stack on which they are worked with.
 
 ghost use Rattle.std.specs.Prelude.{◌≡◌, ◌≤◌, ◌<◌, ◌+◌, ◌*◌, ◌⊎◌, length, IfOk, IsOkAnd, IsErrOf};
+ghost use Rattle.cl_base.specs.declared.limits.TheConstants.{SOURCE_BYTES};
 
 use cl_base::outside::{FileStop, Files, WriteStop};
 use std::alloc::Global;
@@ -17,7 +18,7 @@ pub const SMALL_ROOM: usize = 2048;
 
 /// How large a stack is on which a source of `room` bytes can be worked with.
 pub fn stack_bytes(room: usize) -> usize
-    requires { room ≤ 1048576 }
+    requires { room ≤ SOURCE_BYTES }
     ensures { result ≡ 1048576 + room * 280 }
 {
     BASE_BYTES + room * BYTES_PER_BYTE

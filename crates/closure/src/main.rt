@@ -2,6 +2,7 @@
 #![tactic(auto)]
 
 ghost use Rattle.std.specs.Prelude.{◌≡◌, ◌↔◌, ◌≤◌, map, string_bytes, None};
+ghost use Rattle.cl_base.specs.declared.limits.TheConstants.{SOURCE_BYTES};
 ghost use Rattle.cl_words.specs.Words.{run_asked};
 
 mod arguments;
@@ -25,7 +26,7 @@ use std::thread::Threads;
 /// How long a source the stack is to have room for: as long as the file that the words ask for. Of a pipe nothing is
 /// known before it is read.
 fn room_for(rt: &impl Files, words: &[String]) -> usize
-    ensures { result ≤ 1048576 }
+    ensures { result ≤ SOURCE_BYTES }
 {
     let Some(run) = read_words(words) else {
         return SMALL_ROOM;

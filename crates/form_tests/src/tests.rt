@@ -127,21 +127,24 @@ fn show_item(alloc: Global, out: &mut String, item: &Item) -> Result<(), Fail> {
     Ok(())
 }
 
+fn show_program(alloc: Global, out: &mut String, c: &Checked) -> Result<(), Fail> {
+    for level in c.labels.levels.as_slice() {
+        out.push_str(level.text())?;
+        out.push_str("|")?;
+    }
+    for item in c.typed.program.items.as_slice() {
+        show_item(alloc, out, item)?;
+    }
+    Ok(())
+}
+
 fn shown(alloc: Global, source: &[u8]) -> Result<String, Fail> {
     let mut out = String::new(alloc);
     if source.len() > 1048576 {
         return Ok(out);
     }
     match read_form(alloc, source) {
-        Ok(c) => {
-            for level in c.labels.levels.as_slice() {
-                out.push_str(level.text())?;
-                out.push_str("|")?;
-            }
-            for item in c.typed.program.items.as_slice() {
-                show_item(alloc, &mut out, item)?;
-            }
-        }
+        Ok(c) => show_program(alloc, &mut out, &c)?,
         Err(stop) => {
             let one = format!(in alloc; "{stop:?}")?;
             out.push_str(one.as_str())?;
@@ -152,33 +155,37 @@ fn shown(alloc: Global, source: &[u8]) -> Result<String, Fail> {
 
 const HEAD: &str = "#pragma cle def P {\"level\":\"purple\"}\n";
 
+/// What stands behind the first line, and the statements of `main` as they are shown.
+const READ: [(&str, &str); 6] = [
+    (
+        "int main(void) { putchar(72); return 0; }",
+        " 2.2 putchar@2.2{72@2.2}; 2.2 return 0@2.2;",
+    ),
+    ("int main(void){}\n\t \n", ""),
+    (
+        "int main(void) { return 2 - 3 - 4; }",
+        " 2.2 return [@2 [@2 2@2.2 Sub@2 3@2.2] Sub@2 4@2.2];",
+    ),
+    (
+        "int main(void) { return 2 - (3 - 4); }",
+        " 2.2 return [@2 2@2.2 Sub@2 (@2.2 [@2 3@2.2 Sub@2 4@2.2])];",
+    ),
+    (
+        "int main(void) { return(2+3*4); }",
+        " 2.2 return (@2.2 [@2 2@2.2 Add@2 [@2 3@2.2 Mul@2 4@2.2]]);",
+    ),
+    (
+        "int main(void) {\nreturn\n2\n*\n3\n+\n2147483647;}",
+        " 3.3 return [@4 [@4 2@4.4 Mul@5 3@6.6] Add@7 2147483647@8.8];",
+    ),
+];
+
 #[test]
 fn reads_programs(rt: HostRuntime) -> Result<(), Fail> {
     let alloc = rt.alloc();
     one_reading();
-    for (rest, wanted) in [
-        (
-            "int main(void) { putchar(72); return 0; }",
-            " 2.2 putchar@2.2{72@2.2}; 2.2 return 0@2.2;",
-        ),
-        ("int main(void){}\n\t \n", ""),
-        (
-            "int main(void) { return 2 - 3 - 4; }",
-            " 2.2 return [@2 [@2 2@2.2 Sub@2 3@2.2] Sub@2 4@2.2];",
-        ),
-        (
-            "int main(void) { return 2 - (3 - 4); }",
-            " 2.2 return [@2 2@2.2 Sub@2 (@2.2 [@2 3@2.2 Sub@2 4@2.2])];",
-        ),
-        (
-            "int main(void) { return(2+3*4); }",
-            " 2.2 return (@2.2 [@2 2@2.2 Add@2 [@2 3@2.2 Mul@2 4@2.2]]);",
-        ),
-        (
-            "int main(void) {\nreturn\n2\n*\n3\n+\n2147483647;}",
-            " 3.3 return [@4 [@4 2@4.4 Mul@5 3@6.6] Add@7 2147483647@8.8];",
-        ),
-    ] {
+    for row in &READ {
+        let (rest, wanted) = *row;
         let source = format!(in alloc; "{HEAD}{rest}")?;
         let wanted = format!(in alloc; "purple|def P 18@1|main 0@2.2:{wanted}")?;
         assert_eq!(rt;
@@ -190,29 +197,32 @@ fn reads_programs(rt: HostRuntime) -> Result<(), Fail> {
     Ok(())
 }
 
+/// What is of no form behind the first line.
+const OTHERS: [&str; 18] = [
+    "int main(void) {\r\n}",
+    "int main(void) {\u{c}}",
+    "int main(void) { /* */ }",
+    "int main() {}",
+    "intmain(void) {}",
+    "int main(void) { return 007; }",
+    "int main(void) { return 2147483648; }",
+    "int main(void) { return 1u; }",
+    "int main(void) { return1; }",
+    "int main(void) {} x",
+    "int main(void) { return x; }",
+    "int main(void) { ;; }",
+    "int main(void) { return (); }",
+    "int main(void) { return 1 }",
+    "int main(void) { return - 1; }",
+    "signed main(void) {}",
+    "int32_t main(void) {}",
+    "",
+];
+
 #[test]
 fn refuses_others(rt: HostRuntime) -> Result<(), Fail> {
     let alloc = rt.alloc();
-    for rest in [
-        "int main(void) {\r\n}",
-        "int main(void) {\u{c}}",
-        "int main(void) { /* */ }",
-        "int main() {}",
-        "intmain(void) {}",
-        "int main(void) { return 007; }",
-        "int main(void) { return 2147483648; }",
-        "int main(void) { return 1u; }",
-        "int main(void) { return1; }",
-        "int main(void) {} x",
-        "int main(void) { return x; }",
-        "int main(void) { ;; }",
-        "int main(void) { return (); }",
-        "int main(void) { return 1 }",
-        "int main(void) { return - 1; }",
-        "signed main(void) {}",
-        "int32_t main(void) {}",
-        "",
-    ] {
+    for rest in OTHERS {
         let source = format!(in alloc; "{HEAD}{rest}")?;
         assert_eq!(rt;
             shown(alloc, source.as_bytes())?.as_str(),
@@ -223,28 +233,32 @@ fn refuses_others(rt: HostRuntime) -> Result<(), Fail> {
     Ok(())
 }
 
+/// First lines, and whether a form begins so.
+const FIRST_LINES: [(&str, bool); 11] = [
+    (
+        "#pragma cle def int {\"level\":\"a2345678901234567890123456789012\"}\n",
+        true,
+    ),
+    ("#pragma cle def _1 {\"level\":\"A\"}\n", true),
+    (
+        "#pragma cle def P {\"level\":\"a23456789012345678901234567890123\"}\n",
+        false,
+    ),
+    ("#pragma cle def P {\"level\":\"\"}\n", false),
+    ("#pragma cle def P {\"level\":\"1a\"}\n", false),
+    ("#pragma cle def P {\"level\":\"a_b\"}\n", false),
+    ("#pragma cle def  P {\"level\":\"a\"}\n", false),
+    ("#pragma cle def P {\"level\":\"a\"} \n", false),
+    ("#pragma cle def 1P {\"level\":\"a\"}\n", false),
+    ("#pragma cle def P {\"level\":\"a\"}", false),
+    ("", false),
+];
+
 #[test]
 fn reads_first_lines(rt: HostRuntime) -> Result<(), Fail> {
     let alloc = rt.alloc();
-    for (line, wanted) in [
-        (
-            "#pragma cle def int {\"level\":\"a2345678901234567890123456789012\"}\n",
-            true,
-        ),
-        ("#pragma cle def _1 {\"level\":\"A\"}\n", true),
-        (
-            "#pragma cle def P {\"level\":\"a23456789012345678901234567890123\"}\n",
-            false,
-        ),
-        ("#pragma cle def P {\"level\":\"\"}\n", false),
-        ("#pragma cle def P {\"level\":\"1a\"}\n", false),
-        ("#pragma cle def P {\"level\":\"a_b\"}\n", false),
-        ("#pragma cle def  P {\"level\":\"a\"}\n", false),
-        ("#pragma cle def P {\"level\":\"a\"} \n", false),
-        ("#pragma cle def 1P {\"level\":\"a\"}\n", false),
-        ("#pragma cle def P {\"level\":\"a\"}", false),
-        ("", false),
-    ] {
+    for row in &FIRST_LINES {
+        let (line, wanted) = *row;
         let source = format!(in alloc; "{line}int main(void){{}}")?;
         let read = shown(alloc, source.as_bytes())?;
         assert_eq!(rt; read.as_str() != "NoReading", wanted, "at {line:?}");
@@ -317,18 +331,23 @@ fn show_row(alloc: Global, out: &mut String, row: &GedlRow) -> Result<(), Fail> 
 }
 
 // What the checks say of a source: functions, objects, levels and rows.
+fn show_facts(alloc: Global, out: &mut String, c: &Checked) -> Result<(), Fail> {
+    show_typed(alloc, out, c)?;
+    show_numbers(alloc, out, c.levels.of_functions.as_slice())?;
+    show_numbers(alloc, out, c.levels.of_objects.as_slice())?;
+    for row in c.gedl.rows.as_slice() {
+        show_row(alloc, out, row)?;
+    }
+    Ok(())
+}
+
 fn facts(alloc: Global, source: &[u8]) -> Result<String, Fail> {
     let mut out = String::new(alloc);
     if source.len() > 1048576 {
         return Ok(out);
     }
     if let Ok(c) = read_form(alloc, source) {
-        show_typed(alloc, &mut out, &c)?;
-        show_numbers(alloc, &mut out, c.levels.of_functions.as_slice())?;
-        show_numbers(alloc, &mut out, c.levels.of_objects.as_slice())?;
-        for row in c.gedl.rows.as_slice() {
-            show_row(alloc, &mut out, row)?;
-        }
+        show_facts(alloc, &mut out, &c)?;
     }
     Ok(out)
 }
@@ -347,6 +366,13 @@ fn replaced(alloc: Global, source: &str, old: &str, new: &str) -> Result<String,
     Ok(out)
 }
 
+/// A text, what stands in its place, and the row that there is then.
+const READ_PAIRS: [(&str, &str, &str); 3] = [
+    ("RESP", "RESP", "0>1 0 f GETA Allow 0 0 4 false|"),
+    ("f()", "( f\t( ) )\n*2", "0>1 0 f GETA Allow 0 0 4 false|"),
+    ("48 + f()", "48", ""),
+];
+
 #[test]
 fn reads_two_levels(rt: HostRuntime) -> Result<(), Fail> {
     let alloc = rt.alloc();
@@ -354,11 +380,8 @@ fn reads_two_levels(rt: HostRuntime) -> Result<(), Fail> {
         shown(alloc, PAIR.as_bytes())?.as_str(),
         "purple|orange|def PURPLE 18@1|def ORANGE 18@2|def RESP 18@3|def GETA 177@4|next ORANGE@5|?next GETA@7|f 0@8.8: 8.8 a@8.8 = [@8 a@8.8 Add@8 1@8.8]; 8.8 return a@8.8;main 0@9.9: 9.9 putchar@9.9{[@9 48@9.9 Add@9 f@9.9{}]}; 9.9 return 0@9.9;"
     );
-    for (old, new, wanted) in [
-        ("RESP", "RESP", "0>1 0 f GETA Allow 0 0 4 false|"),
-        ("f()", "( f\t( ) )\n*2", "0>1 0 f GETA Allow 0 0 4 false|"),
-        ("48 + f()", "48", ""),
-    ] {
+    for row in &READ_PAIRS {
+        let (old, new, wanted) = *row;
         let source = replaced(alloc, PAIR, old, new)?;
         let wanted = format!(in alloc; "f 7@8|main 8@9|a 5@6|1 0 |1 |{wanted}")?;
         assert_eq!(rt;
@@ -370,28 +393,32 @@ fn reads_two_levels(rt: HostRuntime) -> Result<(), Fail> {
     Ok(())
 }
 
+/// A text, and what stands in its place, so that the source is of no form.
+const OTHER_PAIRS: [(&str, &str); 17] = [
+    ("orange", "purple"),
+    ("RESP", "PURPLE"),
+    ("GETA", "f"),
+    ("PURPLE", "def"),
+    ("return a; }", "a = 2; }"),
+    ("a = a + 1; return a;", ""),
+    ("f()", "f(1)"),
+    ("a + 1", "a + f()"),
+    ("return 0", "return a"),
+    ("cle ORANGE\n", "cle  ORANGE\n"),
+    ("int a;", "int a ;"),
+    ("int f", "signed f"),
+    ("int main", "int32_t main"),
+    ("RESP {", "RESQ {"),
+    ("48", "048"),
+    ("#pragma cle ORANGE", "#pragma cle PURPLE"),
+    ("argtaints\":[]", "argtaints\":[[]]"),
+];
+
 #[test]
 fn refuses_other_pairs(rt: HostRuntime) -> Result<(), Fail> {
     let alloc = rt.alloc();
-    for (old, new) in [
-        ("orange", "purple"),
-        ("RESP", "PURPLE"),
-        ("GETA", "f"),
-        ("PURPLE", "def"),
-        ("return a; }", "a = 2; }"),
-        ("a = a + 1; return a;", ""),
-        ("f()", "f(1)"),
-        ("a + 1", "a + f()"),
-        ("return 0", "return a"),
-        ("cle ORANGE\n", "cle  ORANGE\n"),
-        ("int a;", "int a ;"),
-        ("int f", "signed f"),
-        ("int main", "int32_t main"),
-        ("RESP {", "RESQ {"),
-        ("48", "048"),
-        ("#pragma cle ORANGE", "#pragma cle PURPLE"),
-        ("argtaints\":[]", "argtaints\":[[]]"),
-    ] {
+    for row in &OTHER_PAIRS {
+        let (old, new) = *row;
         let source = replaced(alloc, PAIR, old, new)?;
         assert_eq!(rt;
             shown(alloc, source.as_bytes())?.as_str(),

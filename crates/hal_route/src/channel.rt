@@ -11,7 +11,7 @@ use sqlite_items::at;
 use std::alloc::Global;
 
 /// A row as the router sees it: its levels, the number of their pair, and the bytes of its payloads.
-#[derive(Clone, Copy, Debug, PartialEq, Eq)]
+#[derive(Clone, Copy, PartialEq, Eq)]
 pub struct Channel {
     pub from: u32,
     pub to: u32,

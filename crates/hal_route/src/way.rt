@@ -8,7 +8,7 @@ use crate::uplink::Passed;
 use rpc_codec::frame::{Header, VALUES};
 
 /// What a frame is: the request of a channel, its reply, or the end of the run.
-#[derive(Clone, Copy, Debug, PartialEq, Eq)]
+#[derive(Clone, Copy, PartialEq, Eq)]
 pub enum Way {
     Asks(Channel),
     Answers(Channel),

@@ -1,5 +1,5 @@
 -- Two runs in which all levels are the same but for labels, and what lies between levels is.
-use Rattle.std.proofs.Common.{◌≡◌, ℕ, zero, suc, ℤ, List, [], ◌∷◌, ◌++◌, length, refl, subst, ap, Result, Ok, Err, Bool, true, false, ◌==◌, if◌then◌else◌, Option, Some, None, inr}
+use Rattle.std.proofs.Common.{◌≡◌, ℕ, zero, suc, ℤ, List, [], ◌∷◌, ◌++◌, length, refl, subst, ap, Result, Ok, Err, Bool, true, false, ◌==◌, if◌then◌else◌, inr}
 use Rattle.std.specs.Prelude.{slice_index_or, slice_set, nat_lt}
 use Rattle.cl_tree.specs.declared.kinds.IntKind.{IntKind}
 use Rattle.cl_tree.specs.Arithmetic.{value}
@@ -15,10 +15,10 @@ use Rattle.cl_mean.specs.Value.{Labelled, bare, Value}
 use Rattle.cl_mean.specs.State.{LevelState, silent, State, Fault, Deed, Place, level_in, fetch, store, make, get_byte, put_byte, count_step, begin_call, end_call, pay, deeper}
 use Rattle.cl_mean.specs.Course.{Stop, meaningless, stops, stop_by, done, within, fetched, stored, made}
 use Rattle.cl_mean.specs.Source.{Binding, Env}
-use Rattle.cl_mean.specs.Judging.{Judged, Acted, patched, act_on, acted_first, passed_by, matches, rules_judge, judge, or_next, laws_judge}
+use Rattle.cl_mean.specs.Judging.{Judged, Acted, patched, act_on, acted_first, passed_by, is_matched, rules_judge, judge, or_next, laws_judge}
 use Rattle.cl_mean.specs.Guarded.{Crossing, fitted}
 pub use Rattle.mean_laws.specs.Alike.{LevelsAll, Contents, Crossing1, Crossings, Between}
-use Rattle.mean_laws.proofs.Alike.{Family, alike_pure, alike_then, by_states, Num, Nums, Same, Any, Ends, Alike, Respects, Envs, MaybeBound}
+use Rattle.mean_laws.proofs.Alike.{Family, alike_pure, alike_then, by_states, Num, Nums, Same, Any, Ends, Alike, Respects, Envs, Bound}
 use Rattle.mean_laws.proofs.Expressions.{two_same}
 use Rattle.mean_laws.proofs.SameLevel.{Agree, Ended, Deeds, fetch_agrees, store_agrees, make_agrees, get_agrees, put_agrees, count_agrees, begin_agrees, end_agrees, pay_agrees}
 use Rattle.mean_laws.proofs.StepsLeft.{Falls, fetch_falls, store_falls, make_falls, get_falls, put_falls, begin_falls, end_falls, pay_falls, count_falls}
@@ -55,9 +55,8 @@ pub envs_refl : (e : Env) → Envs SamePlace e e
 envs_refl [] = tt
 envs_refl (b ∷ e) = ((refl, refl, refl, refl), envs_refl e)
 
-pub maybe_refl : (b : Option Binding) → MaybeBound SamePlace b b
-maybe_refl None = tt
-maybe_refl (Some b) = (refl, refl, refl, refl)
+pub bound_refl : (b : Binding) → Bound SamePlace b b
+bound_refl b = (refl, refl, refl, refl)
 
 -- A family that holds of the same deeds of any level, where these don't raise the steps left, respects every level.
 module _ (F : Family) (same : (A C : Type 0) (P : A → C → Type 0) (l line : ℕ) (f : Deed A) (g : Deed C) → Falls f → Deeds P f g → F.Like P (within l line f) (within l line g)) where
@@ -155,7 +154,7 @@ rules_same [] asked xs ys h = (refl, refl, h)
 rules_same (r ∷ rs) asked xs ys h =
     let a : ActedSame (act_on bare r.act xs) (act_on bare r.act ys) = act_same r.act xs ys h in
     let j : JudgedSame (rules_judge bare rs asked xs) (rules_judge bare rs asked ys) = rules_same rs asked xs ys h in
-    judged_if (matches r asked) (acted_first r rs (act_on bare r.act xs)) (passed_by r (rules_judge bare rs asked xs)) (acted_first r rs (act_on bare r.act ys)) (passed_by r (rules_judge bare rs asked ys))
+    judged_if (is_matched r asked) (acted_first r rs (act_on bare r.act xs)) (passed_by r (rules_judge bare rs asked xs)) (acted_first r rs (act_on bare r.act ys)) (passed_by r (rules_judge bare rs asked ys))
     (a.0, ap (λ (z : GuardAct). let q : Rule = record { from = r.from; to = r.to; function = r.function; reply = r.reply; act = z } in q ∷ rs) a.1, a.2)
     (j.0, ap (λ (z : List Rule). r ∷ z) j.1, j.2)
 

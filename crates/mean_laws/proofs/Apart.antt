@@ -7,16 +7,15 @@ use Rattle.cl_mean.specs.Value.{Labelled}
 use Rattle.cl_mean.specs.State.{State, LevelState, level_in}
 use Rattle.cl_mean.specs.Source.{Definition, Source, function_named}
 use Rattle.cl_mean.specs.Course.{Course, comes, stops, asks, Stop, Ask, Reply}
-use Rattle.cl_mean.specs.Execution.{binding_at}
 use Rattle.cl_mean.specs.Calls.{far, call_at, local_call, body_run, served}
-use Rattle.cl_mean.specs.Guarded.{holds, blocked, broken, Guarded, crossed, judging, let_through, judged_by, Outcome, Serves, Goes, replied, answered_by, requested, guarded, serves_at}
+use Rattle.cl_mean.specs.Guarded.{holds, blocked, broken, Kept, crossed, judging, let_through, judged_by, GuardedRun, Serves, Goes, replied, answered_by, requested, guarded, serves_at}
 use Rattle.mean_laws.specs.Apart.{Parts, put, Came, ServesApart, GoesApart, replied_apart, answered_apart, requested_apart, apart, apart_at, Outs, EachSame, AsksBelow, AboveStay, CameSame, ServeSame}
-use Rattle.mean_laws.proofs.Alike.{Endings, Nums, Replies, Asks, MaybeBound, MaybeKnown}
+use Rattle.mean_laws.proofs.Alike.{Endings, Nums, Replies, Asks, MaybeKnown}
 use Rattle.mean_laws.proofs.AllLevels.{JudgedSame, Between}
 use Rattle.mean_laws.proofs.GuardedRuns.{judging_same, let_same, judged_same, crossed_same}
 use Rattle.mean_laws.proofs.SameLevel.{Agree, AtLevel, One}
 use Rattle.mean_laws.proofs.Keeps
-use Rattle.mean_laws.proofs.Keeps.{Moves, Kept}
+use Rattle.mean_laws.proofs.Keeps.{Moves, Leaves}
 
 -- ---- side by side
 
@@ -54,14 +53,14 @@ module _ (count : ℕ) (rank : ℕ → ℕ) (Known : Definition → Type 0) wher
   abbrev pub Firm : ℕ → Parts → Parts → Type 0
   Firm L m m' = (M : ℕ) → rank L ≤ rank M → m' M ≡ m M
 
-  abbrev pub Out : {A B : Type 0} → (A → B → Type 0) → ℕ → Parts → Outcome A → Came B → Type 0
+  abbrev pub Out : {A B : Type 0} → (A → B → Type 0) → ℕ → Parts → GuardedRun A → Came B → Type 0
   Out P L mem r c = CameSame count rank P L mem r c
 
   abbrev pub ServesSame : Serves → ServesApart → Type 0
   ServesSame f f' = ServeSame count rank Known f f'
 
   abbrev pub GoesSame : {A B : Type 0} → (A → B → Type 0) → ℕ → Parts → Goes A → GoesApart B → Type 0
-  GoesSame P L m k k' = (r q : Reply) → Replies r q → (s : State) (mem : Parts) → Each s mem → Firm L m mem → (g h : Guarded) → Between g h → Out P L m (k r s g) (k' q mem h)
+  GoesSame P L m k k' = (r q : Reply) → Replies r q → (s : State) (mem : Parts) → Each s mem → Firm L m mem → (g h : Kept) → Between g h → Out P L m (k r s g) (k' q mem h)
 
   each_moves : (L : ℕ) (s t s' t' : State) (mem : Parts) → Each s mem → Moves L s t s' t' → Each s' (put mem L t')
   each_moves L s t s' t' mem w m M lt = go (L == M) refl
@@ -78,14 +77,14 @@ module _ (count : ℕ) (rank : ℕ → ℕ) (Known : Definition → Type 0) wher
       not_it : (M : ℕ) → M ≡ D → rank L ≤ rank M → ⊥
       not_it M e le = let p : rank L ≤ rank D = subst (λ (z : ℕ). rank L ≤ rank z) e le in absurd (omega (arith, lt, p))
 
-  replied_same : {A B : Type 0} (P : A → B → Type 0) (L : ℕ) (m : Parts) (a b : Ask) → Asks a b → (k : Goes A) (k' : GoesApart B) → GoesSame P L m k k' → (s : State) (mem : Parts) → Each s mem → Firm L m mem → (g h : Guarded) → Between g h
+  replied_same : {A B : Type 0} (P : A → B → Type 0) (L : ℕ) (m : Parts) (a b : Ask) → Asks a b → (k : Goes A) (k' : GoesApart B) → GoesSame P L m k k' → (s : State) (mem : Parts) → Each s mem → Firm L m mem → (g h : Kept) → Between g h
       → (o q : Option (List Labelled)) → Replies o q → Out P L m (replied a k s g o) (replied_apart b k' mem h q)
   replied_same P L m a b e k k' hk s mem w f g h i None None n = hk None None tt s mem w f _ _ (crossed_same g h a b true blocked blocked i e tt)
   replied_same P L m a b e k k' hk s mem w f g h i None (Some vs) n = absurd n
   replied_same P L m a b e k k' hk s mem w f g h i (Some us) None n = absurd n
   replied_same P L m a b e k k' hk s mem w f g h i (Some us) (Some vs) n = hk (Some us) (Some vs) n s mem w f _ _ (crossed_same g h a b true (holds us) (holds vs) i e n)
 
-  answered_same : {A B : Type 0} (P : A → B → Type 0) (L : ℕ) (m : Parts) (a b : Ask) → Asks a b → (k : Goes A) (k' : GoesApart B) → GoesSame P L m k k' → (s : State) (mem : Parts) (g h : Guarded)
+  answered_same : {A B : Type 0} (P : A → B → Type 0) (L : ℕ) (m : Parts) (a b : Ask) → Asks a b → (k : Goes A) (k' : GoesApart B) → GoesSame P L m k k' → (s : State) (mem : Parts) (g h : Kept)
       → (x y : Result (List Labelled) Stop) → Outs Nums (Each s mem × Between g h × Firm L m mem) x y → Out P L m (answered_by a k s g x) (answered_apart b k' mem h y)
   answered_same P L m a b e k k' hk s mem g h (Ok us) (Ok vs) o =
       let j : JudgedSame (judging g a true us) (judging h b true vs) = judging_same g h a b true us vs o.1.1 e o.0 in
@@ -95,40 +94,40 @@ module _ (count : ℕ) (rank : ℕ → ℕ) (Known : Definition → Type 0) wher
   answered_same P L m a b e k k' hk s mem g h (Err x) (Err y) o = (o.0, (o.1.0, crossed_same g h a b true broken broken o.1.1 e tt, λ M le ne. o.1.2 M le))
 
   requested_same : {A B : Type 0} (P : A → B → Type 0) (f : Serves) (f' : ServesApart) → ServesSame f f' → (L : ℕ) (m : Parts) (a b : Ask) → Asks a b → Known a.callee × (a.callee.level < count) → rank a.callee.level < rank L
-      → (k : Goes A) (k' : GoesApart B) → GoesSame P L m k k' → (s : State) (mem : Parts) → Each s mem → Firm L m mem → (g h : Guarded) → Between g h → (o q : Option (List Labelled)) → Replies o q → Out P L m (requested f a k s g o) (requested_apart f' b k' mem h q)
+      → (k : Goes A) (k' : GoesApart B) → GoesSame P L m k k' → (s : State) (mem : Parts) → Each s mem → Firm L m mem → (g h : Kept) → Between g h → (o q : Option (List Labelled)) → Replies o q → Out P L m (requested f a k s g o) (requested_apart f' b k' mem h q)
   requested_same P f f' hs L m a b e lt down k k' hk s mem w fm g h i None None n = hk None None tt s mem w fm _ _ (crossed_same _ _ a b true blocked blocked (crossed_same g h a b false blocked blocked i e tt) e tt)
   requested_same P f f' hs L m a b e lt down k k' hk s mem w fm g h i None (Some vs) n = absurd n
   requested_same P f f' hs L m a b e lt down k k' hk s mem w fm g h i (Some us) None n = absurd n
   requested_same P f f' hs L m a b e lt down k k' hk s mem w fm g h i (Some us) (Some vs) n =
-      let g' : Guarded = crossed g a false (holds us) in
-      let h' : Guarded = crossed h b false (holds vs) in
-      let r : Outcome (List Labelled) = f a.callee us s g' in
+      let g' : Kept = crossed g a false (holds us) in
+      let h' : Kept = crossed h b false (holds vs) in
+      let r : GuardedRun (List Labelled) = f a.callee us s g' in
       let c : Came (List Labelled) = f' b.callee vs mem h' in
       let o : Out Nums a.callee.level mem r c = subst (λ (d : Definition). Out Nums a.callee.level mem (f a.callee us s g') (f' d vs mem h')) e.2 (hs a.callee lt us vs n s mem w g' h' (crossed_same g h a b false (holds us) (holds vs) i e n)) in
-      answered_same P L m a b e k k' hk r.levels c.parts r.guarded c.kept r.result c.result
-      (outs_map Nums (Each r.levels c.parts × Between r.guarded c.kept × Above a.callee.level mem c.parts) (Each r.levels c.parts × Between r.guarded c.kept × Firm L m c.parts)
+      answered_same P L m a b e k k' hk r.levels c.parts r.kept c.kept r.result c.result
+      (outs_map Nums (Each r.levels c.parts × Between r.kept c.kept × Above a.callee.level mem c.parts) (Each r.levels c.parts × Between r.kept c.kept × Firm L m c.parts)
       (λ z. (z.0, z.1, firm_below L a.callee.level m mem c.parts down fm z.2)) r.result c.result o)
 
   -- A course of level L from the one state, and the one beside it from the level's own state.
-  pub weave : {A B : Type 0} (P : A → B → Type 0) (f : Serves) (f' : ServesApart) → ServesSame f f' → (L : ℕ) → L < count → (x : Course A) (y : Course B) (s t : State) (mem : Parts) → Kept L P s t x y → Falls L x → Each s mem → (g h : Guarded) → Between g h
+  pub weave : {A B : Type 0} (P : A → B → Type 0) (f : Serves) (f' : ServesApart) → ServesSame f f' → (L : ℕ) → L < count → (x : Course A) (y : Course B) (s t : State) (mem : Parts) → Leaves L P s t x y → Falls L x → Each s mem → (g h : Kept) → Between g h
       → Out P L mem (guarded f x g) (apart f' L y mem h)
   unfolding guarded
   weave P f f' hs L lt (comes a s') (comes b t') s t mem kp fl w g h i = (kp.0, (each_moves L s t s' t' mem w kp.1, i, λ M le ne. put_other mem L M t' (L == M) refl ne))
   weave P f f' hs L lt (stops x s') (stops y t') s t mem kp fl w g h i = (kp.0, (each_moves L s t s' t' mem w kp.1, i, λ M le ne. put_other mem L M t' (L == M) refl ne))
   weave {A} {B} P f f' hs L lt (asks a s' k) (asks b t' k') s t mem kp fl w g h i =
-      let j : JudgedSame (judging g a false a.values) (judging h b false b.values) = judging_same g h a b false a.values b.values i kp.0 kp.0.3 in
+      let j : JudgedSame (judging g a false a.values) (judging h b false b.values) = judging_same g h a b false a.values b.values i kp.0 kp.0.4 in
       let m : Parts = put mem L t' in
       let again : Goes A = λ r now z. guarded f (k r now) z in
       let again' : GoesApart B = λ r now z. apart f' L (k' r t') now z in
-      let r : Outcome A = requested f a again s' (judged_by (judging g a false a.values) g) (let_through (judging g a false a.values)) in
+      let r : GuardedRun A = requested f a again s' (judged_by (judging g a false a.values) g) (let_through (judging g a false a.values)) in
       let c : Came B = requested_apart f' b again' m (judged_by (judging h b false b.values) h) (let_through (judging h b false b.values)) in
-      outs_map P (Each r.levels c.parts × Between r.guarded c.kept × Above L m c.parts) (Each r.levels c.parts × Between r.guarded c.kept × Above L mem c.parts)
+      outs_map P (Each r.levels c.parts × Between r.kept c.kept × Above L m c.parts) (Each r.levels c.parts × Between r.kept c.kept × Above L mem c.parts)
       (λ z. (z.0, z.1, λ M le ne. z.2 M le ne ∙ put_other mem L M t' (L == M) refl ne)) r.result c.result
       (requested_same P f f' hs L m a b kp.0 fl.0 fl.1 again again'
       (λ u v n s2 mem2 w2 firm g2 h2 i2.
-      let r2 : Outcome A = guarded f (k u s2) g2 in
+      let r2 : GuardedRun A = guarded f (k u s2) g2 in
       let c2 : Came B = apart f' L (k' v t') mem2 h2 in
-      outs_map P (Each r2.levels c2.parts × Between r2.guarded c2.kept × Above L mem2 c2.parts) (Each r2.levels c2.parts × Between r2.guarded c2.kept × Above L m c2.parts)
+      outs_map P (Each r2.levels c2.parts × Between r2.kept c2.kept × Above L mem2 c2.parts) (Each r2.levels c2.parts × Between r2.kept c2.kept × Above L m c2.parts)
       (λ z. (z.0, z.1, λ M le ne. z.2 M le ne ∙ firm M le)) r2.result c2.result
       (weave P f f' hs L lt (k u s2) (k' v t') s2 t' mem2
       (kp.2 u v n s2 t' (subst (λ (z : State). AtLevel L s2 z) (firm L (omega arith) ∙ put_same mem L t') (w2 L lt)))
@@ -136,18 +135,18 @@ module _ (count : ℕ) (rank : ℕ → ℕ) (Known : Definition → Type 0) wher
       s' m (each_moves L s t s' t' mem w kp.1) (λ M le. refl) _ _ (judged_same _ _ j g h i) _ _ (let_same _ _ j))
   weave P f f' hs L lt _ _ s t mem kp fl w g h i = absurd kp
 
-  module _ (source : Source) (bound : ℕ) (named : (name : Word) → MaybeKnown Known (function_named source.functions name)) (statics : (L : ℕ) (d : Definition) → Known d → d.level ≡ L → (k : ℕ) → MaybeBound (One L) (binding_at d.statics k) (binding_at d.statics k))
+  module _ (source : Source) (bound : ℕ) (named : (name : Word) → MaybeKnown Known (function_named source.functions name))
       (falls : (d : Definition) → Known d → (xs : List Labelled) (s : State) → Falls d.level (served (local_call source bound (call_at source (far source) bound)) d xs s)) where
     pub serves_same : (depth : ℕ) → ServesSame (serves_at source bound depth) (apart_at source bound depth)
     unfolding serves_at
     serves_same zero d lt xs ys n s mem w g h i = (refl, (w, i, λ M le ne. refl))
     serves_same (suc depth) d lt xs ys n s mem w g h i =
         weave Nums (serves_at source bound depth) (apart_at source bound depth) (serves_same depth) d.level lt.1 _ _ s (mem d.level) mem
-        (Keeps.serving_keeps d.level source Known named (statics d.level) bound d lt.0 refl xs ys n s (mem d.level) (w d.level lt.1)) (falls d lt.0 xs s) w g h i
+        (Keeps.serving_keeps d.level source Known named bound d lt.0 refl xs ys n s (mem d.level) (w d.level lt.1)) (falls d lt.0 xs s) w g h i
 
     -- the whole run of a function, such as `main`
-    pub body_same : (d : Definition) → Known d → d.level < count → (s : State) (mem : Parts) → Falls d.level (body_run source bound (call_at source (far source) bound) d [] s) → Each s mem → (g h : Guarded) → Between g h
+    pub body_same : (d : Definition) → Known d → d.level < count → (s : State) (mem : Parts) → Falls d.level (body_run source bound (call_at source (far source) bound) d [] s) → Each s mem → (g h : Kept) → Between g h
         → Out (Endings (One d.level)) d.level mem (guarded (serves_at source bound bound) (body_run source bound (call_at source (far source) bound) d [] s) g) (apart (apart_at source bound bound) d.level (body_run source bound (call_at source (far source) bound) d [] (mem d.level)) mem h)
     body_same d kn lt s mem fl w g h i =
         weave (Endings (One d.level)) (serves_at source bound bound) (apart_at source bound bound) (serves_same bound) d.level lt _ _ s (mem d.level) mem
-        (Keeps.body_keeps d.level source Known named (statics d.level) bound d kn refl [] [] tt s (mem d.level) (w d.level lt)) fl w g h i
+        (Keeps.body_keeps d.level source Known named bound d kn refl [] [] tt s (mem d.level) (w d.level lt)) fl w g h i

@@ -14,13 +14,13 @@ use Rattle.cl_tree.specs.declared.tree.Node.{Node, Node-F, out-Node}
 use Rattle.cl_tree.specs.declared.tree.Node.TheOpen as node
 use Rattle.cl_tree.specs.Arithmetic.{value, apply, apply_one, letter_value, is_zero, truth, promoted, common}
 use Rattle.cl_tree.specs.Words.{Word}
-use Rattle.cl_mean.specs.Value.{Labelled, bare, number, sole, part}
-use Rattle.cl_mean.specs.Shape.{Shape, nothing, integer, struct, array, kind_in, part_in, size_in, member_in, shape_of, converted}
+use Rattle.cl_mean.specs.Value.{Labelled, bare, Value, number, part, is_part}
+use Rattle.cl_mean.specs.Shape.{Shape, nothing, integer, struct, array, kind_in, part_in, size_in, member_index, is_type, shape_of}
 use Rattle.cl_mean.specs.State.{Place, deeper, get_byte}
-use Rattle.cl_mean.specs.Course.{Stop, traps, meaningless, Step, pure, halted, trapped, lifted, fetched, within, ◌>>=◌}
+use Rattle.cl_mean.specs.Course.{Stop, traps, meaningless, Computation, pure, halted, trapped, lifted, the_number, fetched, within, ◌>>=◌}
 use Rattle.cl_mean.specs.Source.{Binding, Env, binding_of, Parameter, Definition, Source, function_named}
-use Rattle.cl_mean.specs.Evaluation.{Spot, given, lent, Calls, Scope, Meaning, computed, read_at, placed, the_spot, spot_of, kind_of, integer_of, as_kind, operand, is_true, applied, working_kind, right_kind, given_kind, decided, logical, worked, binary, senseless, kind_by, worked_one, unary, choice, is_inside, index_of, element_of, member_of, root_spot, variable, variable_of, argument, arguments, call_of, next_byte, call_named, node_meaning, meaning_of}
-use Rattle.mean_laws.proofs.Alike.{Family, IsOwn, Num, Same, each_same, part_same, sole_same, converted_same, Alike, alike_pure, alike_halt, alike_then, alike_if, Respects, Spots, Args1, Args, Bound, MaybeBound, Envs, bound_if, MaybeKnown, CallsAlike}
+use Rattle.cl_mean.specs.Evaluation.{Spot, given, lent, Calls, Scope, Meaning, computed, read_at, placed, the_spot, spot_of, kind_of, integer_of, as_kind, operand, in_type, is_true, applied, working_kind, right_kind, given_kind, decided, logical, worked, binary, senseless, kind_by, worked_one, unary, cast_to, choice, is_inside, index_of, picked, element_of, of_array, member_of, member_named, root_spot, variable, variable_of, argument, arguments, call_of, next_byte, reading, call_named, node_meaning, meaning_of}
+use Rattle.mean_laws.proofs.Alike.{Family, IsOwn, Num, Same, each_same, part_same, is_part_same, Alike, alike_pure, alike_halt, alike_then, alike_if, alike_number, Respects, Spots, Args1, Args, Bound, MaybeBound, Envs, bound_if, MaybeKnown, CallsAlike}
 use Rattle.mean_laws.proofs.Induction.{Each, Parts, expr_induction, meant, meaning_is}
 
 pub two_same : {A B C : Type 0} (f : A → B → C) (a a' : A) (b b' : B) → a ≡ a' → b ≡ b' → f a b ≡ f a' b'
@@ -33,16 +33,16 @@ module _ (F : Family) (At : Place → Place → Type 0) (source : Source) (Known
   abbrev pub sy : Scope
   sy = record { source = source; calls = calls'; here = here }
 
-  abbrev pub Like : {A B : Type 0} → (A → B → Type 0) → Step A → Step B → Type 0
+  abbrev pub Like : {A B : Type 0} → (A → B → Type 0) → Computation A → Computation B → Type 0
   Like P m n = Alike F P m n
 
   pub pure_like : {A B : Type 0} (P : A → B → Type 0) (a : A) (b : B) → P a b → Like P (pure a) (pure b)
   pure_like P a b p = alike_pure F P a b p
 
-  pub then_like : {A B C D : Type 0} (P : A → B → Type 0) (Q : C → D → Type 0) (m : Step A) (n : Step B) (f : A → Step C) (g : B → Step D) → Like P m n → ((a : A) (b : B) → P a b → Like Q (f a) (g b)) → Like Q (m >>= f) (n >>= g)
+  pub then_like : {A B C D : Type 0} (P : A → B → Type 0) (Q : C → D → Type 0) (m : Computation A) (n : Computation B) (f : A → Computation C) (g : B → Computation D) → Like P m n → ((a : A) (b : B) → P a b → Like Q (f a) (g b)) → Like Q (m >>= f) (n >>= g)
   then_like P Q m n f g hm hf = alike_then F P Q m n f g hm hf
 
-  pub if_like : {A B : Type 0} (P : A → B → Type 0) (b d : Bool) (m m' : Step A) (n n' : Step B) → b ≡ d → Like P m n → Like P m' n' → Like P (if b then m else m') (if d then n else n')
+  pub if_like : {A B : Type 0} (P : A → B → Type 0) (b d : Bool) (m m' : Computation A) (n n' : Computation B) → b ≡ d → Like P m n → Like P m' n' → Like P (if b then m else m') (if d then n else n')
   if_like P b d m m' n n' e h k = subst (λ (z : Bool). Like P (if b then m else m') (if z then n else n')) e (alike_if F P b m m' n n' h k)
 
   pub trap_like : {A B : Type 0} (P : A → B → Type 0) (cause : TrapCause) (line : ℕ) → Like P (trapped here.level cause line) (trapped here.level cause line)
@@ -53,7 +53,7 @@ module _ (F : Family) (At : Place → Place → Type 0) (source : Source) (Known
 
   -- ---- what expressions mean
 
-  abbrev pub SpotsAlike : Option (Step Spot) → Option (Step Spot) → Type 0
+  abbrev pub SpotsAlike : Option (Computation Spot) → Option (Computation Spot) → Type 0
   SpotsAlike None None = Unit {0}
   SpotsAlike None (Some n) = ⊥
   SpotsAlike (Some m) None = ⊥
@@ -76,7 +76,7 @@ module _ (F : Family) (At : Place → Place → Type 0) (source : Source) (Known
       one false = k
 
   pub integer_like : (m : Meaning) (n : Meaning) → Means m n → Like Num (integer_of m) (integer_of n)
-  integer_like m n h = then_like Same Num m.value n.value _ _ h.2 (λ v w s. pure_like Num (sole v) (sole w) (sole_same v w s))
+  integer_like m n h = then_like Same Num m.value n.value the_number the_number h.2 (alike_number F)
 
   pub kind_like : (m : Meaning) (n : Meaning) → Means m n → kind_of m ≡ kind_of n
   kind_like m n h = ap kind_in h.0
@@ -85,7 +85,13 @@ module _ (F : Family) (At : Place → Place → Type 0) (source : Source) (Known
   operand_like k k' m n e h =
       then_like Num Num (integer_of m) (integer_of n) _ _ (integer_like m n h) (λ x y p. pure_like Num (as_kind k x) (as_kind k' y) (two_same value k k' x.number y.number e p))
 
-  pub computed_like : (k k' : IntKind) (x : Step Labelled) (y : Step Labelled) → k ≡ k' → Like Num x y → Means (computed k x) (computed k' y)
+  pub type_like : (k : Shape) (m : Meaning) (n : Meaning) → Means m n → Like Same (in_type k m) (in_type k n)
+  type_like nothing m n h = halt_like Same meaningless tt
+  type_like (integer kind) m n h = then_like Num Same (operand kind m) (operand kind n) _ _ (operand_like kind kind m n refl h) (λ x y p. pure_like Same (number x) (number y) p)
+  type_like (struct ms) m n h = if_like Same (is_type (struct ms) m.shape) (is_type (struct ms) n.shape) _ _ _ _ (ap (λ (z : Shape). is_type (struct ms) z) h.0) h.2 (halt_like Same meaningless tt)
+  type_like (array element size) m n h = halt_like Same meaningless tt
+
+  pub computed_like : (k k' : IntKind) (x : Computation Labelled) (y : Computation Labelled) → k ≡ k' → Like Num x y → Means (computed k x) (computed k' y)
   computed_like k k' x y e h = (ap (λ (z : IntKind). integer z) e, tt, then_like Num Same x y _ _ h (λ a b p. pure_like Same (number a) (number b) p))
 
   lifted_self : (line : ℕ) (r : Result ℤ TrapCause) → Like (λ (a b : ℤ). a ≡ b) (lifted here.level line r) (lifted here.level line r)
@@ -142,6 +148,12 @@ module _ (F : Family) (At : Place → Place → Type 0) (source : Source) (Known
   unary_like Amp line a a' h = senseless_like
   unary_like op line a a' h = worked_one_like op line a a' h
 
+  cast_like : (k : Shape) (a : Meaning) (a' : Meaning) → Means a a' → Means (cast_to k a) (cast_to k a')
+  cast_like nothing a a' h = senseless_like
+  cast_like (integer kind) a a' h = computed_like kind kind _ _ refl (operand_like kind kind a a' refl h)
+  cast_like (struct ms) a a' h = senseless_like
+  cast_like (array element size) a a' h = senseless_like
+
   pub true_same : (x y : Labelled) → Num x y → is_true x ≡ is_true y
   true_same x y p = ap (λ (n : ℤ). not (is_zero n)) p
 
@@ -157,10 +169,10 @@ module _ (F : Family) (At : Place → Place → Type 0) (source : Source) (Known
   pub read_like : (u v : Spot) → Spots At u v → Like Same (read_at u) (read_at v)
   read_like u v q = then_like Same Same (fetched u.place) (fetched v.place) _ _ (c.fetches u.place v.place q.0) (λ x y s. alike_pure F _ _ _ ((each_same _ _ (λ a b p. p) x y s)))
 
-  placed_like : (k k' : Shape) (m : Step Spot) (n : Step Spot) → k ≡ k' → Like (Spots At) m n → Means (placed k m) (placed k' n)
+  placed_like : (k k' : Shape) (m : Computation Spot) (n : Computation Spot) → k ≡ k' → Like (Spots At) m n → Means (placed k m) (placed k' n)
   placed_like k k' m n e h = (e, h, then_like (Spots At) Same m n read_at read_at h read_like)
 
-  the_spot_like : (m : Option (Step Spot)) (n : Option (Step Spot)) → SpotsAlike m n → Like (Spots At) (the_spot m) (the_spot n)
+  the_spot_like : (m : Option (Computation Spot)) (n : Option (Computation Spot)) → SpotsAlike m n → Like (Spots At) (the_spot m) (the_spot n)
   the_spot_like None None h = halt_like (Spots At) meaningless tt
   the_spot_like None (Some n) h = absurd h
   the_spot_like (Some m) None h = absurd h
@@ -177,13 +189,21 @@ module _ (F : Family) (At : Place → Place → Type 0) (source : Source) (Known
   deeper_like : (u v : Spot) (i j : ℕ) → Spots At u v → i ≡ j → At (deeper u.place i) (deeper v.place j)
   deeper_like u v i j q e = subst (λ (k : ℕ). At (deeper u.place i) (deeper v.place k)) e (c.deeper_at u.place v.place i q.0)
 
-  element_like : (line : ℕ) (a b : Meaning) (a' b' : Meaning) → Means a a' → Means b b' → (m : Option (Step Spot)) (n : Option (Step Spot)) → SpotsAlike m n → Means (element_of here.level line a b m) (element_of here.level line a' b' n)
+  -- a part of a value without a place
+  picked_like : (i : ℕ) (v w : Value) → Same v w → Like Same (picked v i) (picked w i)
+  picked_like i v w s = if_like Same (is_part v i) (is_part w i) _ _ _ _ (is_part_same i v w s) (pure_like Same (part v i) (part w i) (part_same i v w s)) (halt_like Same meaningless tt)
+
+  picked_at : (i j : ℕ) (v w : Value) → i ≡ j → Same v w → Like Same (picked v i) (picked w j)
+  picked_at i j v w e s = subst (λ (k : ℕ). Like Same (picked v i) (picked w k)) e (picked_like i v w s)
+
+  element_like : (line : ℕ) (a b : Meaning) (a' b' : Meaning) → Means a a' → Means b b' → (m : Option (Computation Spot)) (n : Option (Computation Spot)) → SpotsAlike m n → Means (element_of here.level line a b m) (element_of here.level line a' b' n)
   element_like line a b a' b' h k None None s = (
     ap (λ (z : Shape). part_in z 0) h.0,
     tt,
     then_like Same Same a.value a'.value _ _ h.2 (λ v w q.
         then_like Num Same (index_of here.level line (size_in a.shape) b) (index_of here.level line (size_in a'.shape) b') _ _ (index_like line _ _ b b' (ap size_in h.0) k) (λ i j p.
-        alike_pure F _ _ _ ((each_same _ _ (λ x y r. r) _ _ (subst (λ (z : ℤ). Same (part v (unsigned_abs i.number)) (part w (unsigned_abs z))) p (part_same (unsigned_abs i.number) v w q)))))),
+        then_like Same Same (picked v (unsigned_abs i.number)) (picked w (unsigned_abs j.number)) _ _ (picked_at (unsigned_abs i.number) (unsigned_abs j.number) v w (ap (λ (z : ℤ). unsigned_abs z) p) q) (λ x y s'.
+        alike_pure F _ _ _ ((each_same _ _ (λ x' y' r. r) x y s'))))),
   )
   element_like line a b a' b' h k None (Some n) s = absurd s
   element_like line a b a' b' h k (Some m) None s = absurd s
@@ -192,17 +212,35 @@ module _ (F : Family) (At : Place → Place → Type 0) (source : Source) (Known
       then_like Num (Spots At) (index_of here.level line (size_in a.shape) b) (index_of here.level line (size_in a'.shape) b') _ _ (index_like line _ _ b b' (ap size_in h.0) k) (λ i j p.
       alike_pure F _ _ _ ((deeper_like u v (unsigned_abs i.number) (unsigned_abs j.number) q (ap (λ (z : ℤ). unsigned_abs z) p), q.1)))))
 
-  member_like : (i j : ℕ) (a : Meaning) (a' : Meaning) → i ≡ j → Means a a' → (m : Option (Step Spot)) (n : Option (Step Spot)) → SpotsAlike m n → Means (member_of a i m) (member_of a' j n)
+  member_like : (i j : ℕ) (a : Meaning) (a' : Meaning) → i ≡ j → Means a a' → (m : Option (Computation Spot)) (n : Option (Computation Spot)) → SpotsAlike m n → Means (member_of a i m) (member_of a' j n)
   member_like i j a a' e h None None s = (
     two_same part_in a.shape a'.shape i j h.0 e,
     tt,
-    then_like Same Same a.value a'.value _ _ h.2 (λ v w q.
-        alike_pure F _ _ _ ((subst (λ (z : ℕ). Same (part v i) (part w z)) e (part_same i v w q)))),
+    then_like Same Same a.value a'.value _ _ h.2 (λ v w q. picked_at i j v w e q),
   )
   member_like i j a a' e h None (Some n) s = absurd s
   member_like i j a a' e h (Some m) None s = absurd s
   member_like i j a a' e h (Some m) (Some n) s =
       placed_like _ _ _ _ (two_same part_in a.shape a'.shape i j h.0 e) (then_like (Spots At) (Spots At) m n _ _ s (λ u v q. alike_pure F _ _ _ ((deeper_like u v i j q e, q.1))))
+
+  -- only an array is indexed, and only a struct has members
+  array_like : (k k' : Shape) (m : Meaning) (n : Meaning) → k ≡ k' → Means m n → Means (of_array k m) (of_array k' n)
+  array_like k k' m n e h = subst (λ (z : Shape). Means (of_array k m) (of_array z n)) e (one k)
+    where
+      one : (z : Shape) → Means (of_array z m) (of_array z n)
+      one (array element size) = h
+      one nothing = senseless_like
+      one (integer kind) = senseless_like
+      one (struct ms) = senseless_like
+
+  named_member_like : (k k' : Shape) (a : Meaning) (a' : Meaning) (name : Word) → k ≡ k' → Means a a' → Means (member_named k a name) (member_named k' a' name)
+  named_member_like k k' a a' name e h = subst (λ (z : Shape). Means (member_named k a name) (member_named z a' name)) e (one k)
+    where
+      one : (z : Shape) → Means (member_named z a name) (member_named z a' name)
+      one (struct ms) = member_like (member_index ms name) (member_index ms name) a a' refl h a.spot a'.spot h.1
+      one nothing = senseless_like
+      one (integer kind) = senseless_like
+      one (array element size) = senseless_like
 
   variable_like : (a b : Binding) → Bound At a b → Means (variable a) (variable b)
   variable_like a b h = placed_like a.shape b.shape (pure (root_spot a)) (pure (root_spot b)) h.1 (alike_pure F _ _ _ ((h.2, h.3)))
@@ -224,11 +262,16 @@ module _ (F : Family) (At : Place → Place → Type 0) (source : Source) (Known
 
   -- ---- calls
 
+  given_like : (k : Shape) (m : Meaning) (n : Meaning) → Means m n → Like (Args1 At) (in_type k m >>= λ v. pure (given v)) (in_type k n >>= λ v. pure (given v))
+  given_like k m n h = then_like Same (Args1 At) (in_type k m) (in_type k n) _ _ (type_like k m n h) (λ v w s. pure_like (Args1 At) (given v) (given w) s)
+
   argument_like : (k : Shape) (m : Meaning) (n : Meaning) → Means m n → Like (Args1 At) (argument k m) (argument k n)
-  argument_like (array element size) m n h = then_like (Spots At) (Args1 At) (spot_of m) (spot_of n) _ _ (spot_like m n h) (λ u v q. pure_like (Args1 At) (lent u) (lent v) q)
-  argument_like nothing m n h = then_like Same (Args1 At) m.value n.value _ _ h.2 (λ v w s. pure_like (Args1 At) (given v) (given w) s)
-  argument_like (integer kind) m n h = then_like Same (Args1 At) m.value n.value _ _ h.2 (λ v w s. pure_like (Args1 At) (given (converted (integer kind) v)) (given (converted (integer kind) w)) (converted_same (integer kind) v w s))
-  argument_like (struct ms) m n h = then_like Same (Args1 At) m.value n.value _ _ h.2 (λ v w s. pure_like (Args1 At) (given v) (given w) s)
+  argument_like (array element size) m n h =
+      if_like (Args1 At) (is_type (array element size) m.shape) (is_type (array element size) n.shape) _ _ _ _ (ap (λ (z : Shape). is_type (array element size) z) h.0)
+      (then_like (Spots At) (Args1 At) (spot_of m) (spot_of n) _ _ (spot_like m n h) (λ u v q. pure_like (Args1 At) (lent u) (lent v) q)) (halt_like (Args1 At) meaningless tt)
+  argument_like nothing m n h = given_like nothing m n h
+  argument_like (integer kind) m n h = given_like (integer kind) m n h
+  argument_like (struct ms) m n h = given_like (struct ms) m n h
 
   arguments_like : (ps : List Parameter) (ms : List Meaning) (ns : List Meaning) → MeansAll ms ns → Like (Args At) (arguments ps ms) (arguments ps ns)
   arguments_like [] [] [] h = pure_like (Args At) [] [] tt
@@ -249,9 +292,15 @@ module _ (F : Family) (At : Place → Place → Type 0) (source : Source) (Known
   next_like : Like Num (next_byte here.level) (next_byte here.level)
   next_like = then_like (λ (a b : ℤ). a ≡ b) Num (within here.level 0 get_byte) (within here.level 0 get_byte) _ _ c.gets (λ a b p. alike_pure F _ _ _ (p))
 
+  reading_like : (ms : List Meaning) (ns : List Meaning) → MeansAll ms ns → Means (reading here.level ms) (reading here.level ns)
+  reading_like [] [] h = computed_like I32 I32 _ _ refl next_like
+  reading_like [] (n ∷ ns) h = absurd h
+  reading_like (m ∷ ms) [] h = absurd h
+  reading_like (m ∷ ms) (n ∷ ns) h = senseless_like
+
   call_named_like : (line : ℕ) (name : Word) (ms : List Meaning) (ns : List Meaning) → MeansAll ms ns → Means (call_named sx line name ms) (call_named sy line name ns)
   call_named_like line name ms ns h =
-      means_if (bytes_eq name (codes "getchar")) (bytes_eq name (codes "getchar")) _ _ _ _ refl (computed_like I32 I32 _ _ refl next_like) (call_like line (function_named source.functions name) (named name) ms ns h)
+      means_if (bytes_eq name (codes "getchar")) (bytes_eq name (codes "getchar")) _ _ _ _ refl (reading_like ms ns h) (call_like line (function_named source.functions name) (named name) ms ns h)
 
   -- ---- the induction
 
@@ -271,10 +320,10 @@ module _ (F : Family) (At : Place → Place → Type 0) (source : Source) (Known
   node_like e e' g (node.Unary op a) h line second = unary_like op line _ _ h
   node_like e e' g (node.Binary op a b) h line second = binary_like op second _ _ _ _ h.0 h.1
   node_like e e' g (node.Choice t a b) h line second = choice_like _ _ _ _ _ _ h.0 h.1 h.2
-  node_like e e' g (node.Cast t a) h line second = computed_like _ _ _ _ refl (operand_like (kind_in (shape_of source.structs t)) (kind_in (shape_of source.structs t)) _ _ refl h)
+  node_like e e' g (node.Cast t a) h line second = cast_like (shape_of source.structs t) _ _ h
   node_like e e' g (node.Call name xs) h line second = call_named_like line name _ _ (all_mean e e' xs h)
-  node_like e e' g (node.Index a b) h line second = element_like second _ _ _ _ h.0 h.1 _ _ h.0.1
-  node_like e e' g (node.Member a name) h line second = member_like _ _ _ _ (ap (λ (z : Shape). member_in z name) h.0) h _ _ h.1
+  node_like e e' g (node.Index a b) h line second = array_like _ _ _ _ h.0.0 (element_like second _ _ _ _ h.0 h.1 _ _ h.0.1)
+  node_like e e' g (node.Member a name) h line second = named_member_like _ _ _ _ name h.0 h
   node_like e e' g (node.Arrow a name) h line second = senseless_like
   node_like e e' g (node.Paren a) h line second = h
 

@@ -6,13 +6,12 @@ use Rattle.cl_tree.specs.Words.{Word}
 use Rattle.cl_mean.specs.Value.{Labelled}
 use Rattle.cl_mean.specs.State.{LevelState, silent, State, Fault, Deed, level_in, with_level}
 use Rattle.cl_mean.specs.Source.{Definition, Source, known_at, function_named}
-use Rattle.cl_mean.specs.Course.{Course, comes, stops, asks, Stop, meaningless, stop_by, Ask, Step, goes_to, asked, done, within}
+use Rattle.cl_mean.specs.Course.{Course, comes, stops, asks, Stop, meaningless, stop_by, Ask, Computation, goes_to, asking, done, within}
 use Rattle.cl_mean.specs.Evaluation.{Argument}
-use Rattle.cl_mean.specs.Execution.{binding_at}
 use Rattle.cl_mean.specs.Calls.{far, call_at, local_call, body_run, served}
 use Rattle.mean_laws.specs.Apart.{OthersStay, BothMove, LeavesOthers}
-use Rattle.mean_laws.proofs.Alike.{Family, Nums, Replies, Asks, Respects, bound_same, Args, MaybeBound, Envs, Endings, MaybeKnown, CallsAlike}
-use Rattle.mean_laws.proofs.SameLevel.{Ended, Deeds, AtLevel, One, one_respects, set_agrees, level_knows}
+use Rattle.mean_laws.proofs.Alike.{Family, Nums, Replies, Asks, Respects, bound_same, Args, Envs, Endings, MaybeKnown, CallsAlike}
+use Rattle.mean_laws.proofs.SameLevel.{Ended, Deeds, AtLevel, One, one_respects, set_agrees, level_knows, lies_at}
 use Rattle.mean_laws.proofs.LevelCalls
 use Rattle.mean_laws.proofs.FarCalls
 
@@ -38,19 +37,19 @@ module _ (L : ℕ) where
   moves_on : (s t s' t' s2 t2 : State) → Moves s t s' t' → Moves s' t' s2 t2 → Moves s t s2 t2
   moves_on s t s' t' s2 t2 h k = (k.0, others_trans s s' s2 h.1 k.1, others_trans t t' t2 h.2 k.2)
 
-  abbrev pub Kept : {A B : Type 0} → (A → B → Type 0) → State → State → Course A → Course B → Type 0
-  Kept P s t x y = LeavesOthers L P s t x y
+  abbrev pub Leaves : {A B : Type 0} → (A → B → Type 0) → State → State → Course A → Course B → Type 0
+  Leaves P s t x y = LeavesOthers L P s t x y
 
-  abbrev pub Keep : {A B : Type 0} → (A → B → Type 0) → Step A → Step B → Type 0
-  Keep P m n = (s t : State) → AtLevel L s t → Kept P s t (m s) (n t)
+  abbrev pub Keep : {A B : Type 0} → (A → B → Type 0) → Computation A → Computation B → Type 0
+  Keep P m n = (s t : State) → AtLevel L s t → Leaves P s t (m s) (n t)
 
-  pub kept_on : {A B : Type 0} (P : A → B → Type 0) (s t s' t' : State) → Moves s t s' t' → (x : Course A) (y : Course B) → Kept P s' t' x y → Kept P s t x y
+  pub kept_on : {A B : Type 0} (P : A → B → Type 0) (s t s' t' : State) → Moves s t s' t' → (x : Course A) (y : Course B) → Leaves P s' t' x y → Leaves P s t x y
   kept_on P s t s' t' m (comes a s2) (comes b t2) h = (h.0, moves_on s t s' t' s2 t2 m h.1)
   kept_on P s t s' t' m (stops j s2) (stops k t2) h = (h.0, moves_on s t s' t' s2 t2 m h.1)
   kept_on P s t s' t' m (asks a s2 f) (asks b t2 g) h = (h.0, moves_on s t s' t' s2 t2 m h.1, h.2)
   kept_on P s t s' t' m _ _ h = absurd h
 
-  pub kept_then : {A B C D : Type 0} (P : A → B → Type 0) (Q : C → D → Type 0) (s t : State) (x : Course A) (y : Course B) (f : A → Step C) (g : B → Step D) → Kept P s t x y → ((a : A) (b : B) → P a b → Keep Q (f a) (g b)) → Kept Q s t (goes_to f x) (goes_to g y)
+  pub kept_then : {A B C D : Type 0} (P : A → B → Type 0) (Q : C → D → Type 0) (s t : State) (x : Course A) (y : Course B) (f : A → Computation C) (g : B → Computation D) → Leaves P s t x y → ((a : A) (b : B) → P a b → Keep Q (f a) (g b)) → Leaves Q s t (goes_to f x) (goes_to g y)
   kept_then P Q s t (comes a s') (comes b t') f g e h = kept_on Q s t s' t' e.1 (f a s') (g b t') (h a b e.0 s' t' e.1.0)
   kept_then P Q s t (stops j s') (stops k t') f g e h = e
   kept_then P Q s t (asks a s' f') (asks b t' g') f g e h = (e.0, e.1, λ r q i s2 t2 n. kept_then P Q s2 t2 (f' r s2) (g' q t2) f g (e.2 r q i s2 t2 n) h)
@@ -71,7 +70,7 @@ module _ (L : ℕ) where
     thens = λ P Q m n f g hm hf s t r. kept_then P Q s t (m s) (n t) f g (hm s t r) hf;
   }
 
-  done_kept : {A B : Type 0} (P : A → B → Type 0) (line : ℕ) (s t : State) (x : Result (A × LevelState) Fault) (y : Result (B × LevelState) Fault) → AtLevel L s t → Ended P x y → Kept P s t (done L line s x) (done L line t y)
+  done_kept : {A B : Type 0} (P : A → B → Type 0) (line : ℕ) (s t : State) (x : Result (A × LevelState) Fault) (y : Result (B × LevelState) Fault) → AtLevel L s t → Ended P x y → Leaves P s t (done L line s x) (done L line t y)
   done_kept P line s t (Ok x) (Ok y) r h = (h.0, (set_agrees L s t x.1 y.1 r h.1, others_set s x.1, others_set t y.1))
   done_kept P line s t (Ok x) (Err d) r h = absurd h
   done_kept P line s t (Err c) (Ok y) r h = absurd h
@@ -80,17 +79,17 @@ module _ (L : ℕ) where
   within_kept : {A B : Type 0} (P : A → B → Type 0) (line : ℕ) (f : Deed A) (g : Deed B) → Deeds P f g → Keep P (within L line f) (within L line g)
   unfolding within
   within_kept {A} {B} P line f g h s t r =
-      subst (λ (z : Bool). Kept P s t (if z then done L line s (f (level_in s L)) else stops meaningless s) (if nat_lt L (length t) then done L line t (g (level_in t L)) else stops meaningless t)) (sym (lt-ltb L (length s) r.0))
-      (subst (λ (z : Bool). Kept P s t (done L line s (f (level_in s L))) (if z then done L line t (g (level_in t L)) else stops meaningless t)) (sym (lt-ltb L (length t) r.1))
+      subst (λ (z : Bool). Leaves P s t (if z then done L line s (f (level_in s L)) else stops meaningless s) (if nat_lt L (length t) then done L line t (g (level_in t L)) else stops meaningless t)) (sym (lt-ltb L (length s) r.0))
+      (subst (λ (z : Bool). Leaves P s t (done L line s (f (level_in s L))) (if z then done L line t (g (level_in t L)) else stops meaningless t)) (sym (lt-ltb L (length t) r.1))
       (done_kept P line s t (f (level_in s L)) (g (level_in t L)) r (h (level_in s L) (level_in t L) r.2)))
 
   pub keeping_respects : Respects keeping (One L) L
   keeping_respects = one_respects keeping L (λ A B P line f g h. within_kept P line f g h)
 
-  pub keeping_asks : (a b : Ask) → Asks a b → Keep Replies (asked a) (asked b)
+  pub keeping_asks : (a b : Ask) → Asks a b → Keep Replies (asking a) (asking b)
   keeping_asks a b h s t r = (h, still_here s t r, λ x y e s2 t2 n. (e, still_here s2 t2 n))
 
-  module _ (source : Source) (Known : Definition → Type 0) (named : (name : Word) → MaybeKnown Known (function_named source.functions name)) (statics : (d : Definition) → Known d → d.level ≡ L → (k : ℕ) → MaybeBound (One L) (binding_at d.statics k) (binding_at d.statics k)) where
+  module _ (source : Source) (Known : Definition → Type 0) (named : (name : Word) → MaybeKnown Known (function_named source.functions name)) where
     respects_at : (l : ℕ) → l ≡ L → Respects keeping (One L) l
     respects_at l e = subst (λ (z : ℕ). Respects keeping (One L) z) (sym e) keeping_respects
 
@@ -99,17 +98,17 @@ module _ (L : ℕ) where
 
     calls_keep : (n : ℕ) (here : Definition) → here.level ≡ L → CallsAlike keeping (One L) Known here (call_at source (far source) n) (call_at source (far source) n)
     calls_keep n here l =
-        LevelCalls.calls_alike keeping (One L) source Known named (λ z. z ≡ L) respects_at knows_at statics tt (far source) (far source)
+        LevelCalls.calls_alike keeping (One L) source Known named (λ z. z ≡ L) respects_at knows_at (lies_at L) tt (far source) (far source)
         (λ k k' bb hs f line d kn xs ys e h. FarCalls.far_like keeping (One L) source L keeping_respects keeping_asks (local_call source k (call_at source (far source) k)) (local_call source k' (call_at source (far source) k')) f line d xs ys e h)
         n n (bound_same No n) here l
 
     -- the body of a function of the level
     pub body_keeps : (n : ℕ) (d : Definition) → Known d → d.level ≡ L → (xs ys : List Argument) → Args (One L) xs ys → Keep (Endings (One L)) (body_run source n (call_at source (far source) n) d xs) (body_run source n (call_at source (far source) n) d ys)
     body_keeps n d kn l xs ys h =
-        LevelCalls.body_like keeping (One L) source Known named (λ z. z ≡ L) respects_at knows_at statics tt n n (bound_same No n) (call_at source (far source) n) (call_at source (far source) n) d kn l (calls_keep n d l) xs ys h
+        LevelCalls.body_like keeping (One L) source Known named (λ z. z ≡ L) respects_at knows_at (lies_at L) tt n n (bound_same No n) (call_at source (far source) n) (call_at source (far source) n) d kn l (calls_keep n d l) xs ys h
 
     -- the level serves a request
     pub serving_keeps : (n : ℕ) (d : Definition) → Known d → d.level ≡ L → (xs ys : List Labelled) → Nums xs ys → Keep Nums (served (local_call source n (call_at source (far source) n)) d xs) (served (local_call source n (call_at source (far source) n)) d ys)
     serving_keeps n d kn l xs ys h =
         FarCalls.served_like keeping (One L) source L keeping_respects keeping_asks (local_call source n (call_at source (far source) n)) (local_call source n (call_at source (far source) n)) d l
-        (λ us vs k. LevelCalls.local_like keeping (One L) source Known named (λ z. z ≡ L) respects_at knows_at statics tt n n (bound_same No n) (call_at source (far source) n) (call_at source (far source) n) d kn l (calls_keep n d l) us vs k) xs ys h
+        (λ us vs k. LevelCalls.local_like keeping (One L) source Known named (λ z. z ≡ L) respects_at knows_at (lies_at L) tt n n (bound_same No n) (call_at source (far source) n) (call_at source (far source) n) d kn l (calls_keep n d l) us vs k) xs ys h

@@ -7,22 +7,22 @@ use Rattle.cl_mean.specs.declared.labels.Taints.{Taints}
 use Rattle.cl_mean.specs.Value.{once, carries_just, Value, each}
 use Rattle.cl_mean.specs.Shape.{Shape, nothing, integer, struct, array}
 use Rattle.cl_mean.specs.State.{Place, begin_call, end_call, count_step}
-use Rattle.cl_mean.specs.Course.{traps, unbounded, meaningless, Step, pure, within, fetched, made, ◌>>=◌, ◌>>◌}
-use Rattle.cl_mean.specs.Source.{Root, open_to_all, admits, annotated, Env, Parameter, Definition, Source, known_at, function_named}
+use Rattle.cl_mean.specs.Course.{traps, unbounded, meaningless, Computation, pure, within, fetched, made, ◌>>=◌, ◌>>◌}
+use Rattle.cl_mean.specs.Source.{Root, open_to_all, admits, labelled, Binding, Env, Parameter, Definition, Source, known_at, function_named}
 use Rattle.cl_mean.specs.Evaluation.{Spot, Argument, given, lent, Calls}
-use Rattle.cl_mean.specs.Execution.{Ending, goes_on, breaks, continues, returns, binding_at, doing_of, in_turn}
-use Rattle.cl_mean.specs.Calls.{with_parameters, at_end, result_of, body_run, coerced, coerced_by, arrays_coerced, result_labels, roots_coerced, local_call, Serving, Across, by_level, call_at}
-use Rattle.mean_laws.proofs.Alike.{Family, alike_pure, Same, each_same, Any, Alike, alike_lax, alike_halt, alike_meet, alike_then, Respects, Bounds, less, Loops, Spots, Args, MaybeBound, Envs, Endings, MaybeKnown, CallsAlike}
+use Rattle.cl_mean.specs.Execution.{Ending, goes_on, breaks, continues, returns, doing_of, in_turn}
+use Rattle.cl_mean.specs.Calls.{with_parameters, at_end, result_of, body_run, coerced, coerced_by, arrays_coerced, result_labels, roots_coerced, local_call, LocalCall, Across, by_level, call_at}
+use Rattle.mean_laws.proofs.Alike.{Family, alike_pure, Same, each_same, Any, Alike, alike_lax, alike_halt, alike_meet, alike_then, Respects, Bounds, less, Loops, Spots, Args, Bound, Envs, Endings, MaybeKnown, CallsAlike}
 use Rattle.mean_laws.proofs.Statements
 
-module _ (F : Family) (At : Place → Place → Type 0) (source : Source) (Known : Definition → Type 0) (named : (name : Word) → MaybeKnown Known (function_named source.functions name)) (In : ℕ → Type 0) (c : (l : ℕ) → In l → Respects F At l) (globals : (l : ℕ) → In l → Envs At (known_at source l) (known_at source l)) (statics : (d : Definition) → Known d → In d.level → (k : ℕ) → MaybeBound At (binding_at d.statics k) (binding_at d.statics k)) where
-  abbrev pub Like : {A B : Type 0} → (A → B → Type 0) → Step A → Step B → Type 0
+module _ (F : Family) (At : Place → Place → Type 0) (source : Source) (Known : Definition → Type 0) (named : (name : Word) → MaybeKnown Known (function_named source.functions name)) (In : ℕ → Type 0) (c : (l : ℕ) → In l → Respects F At l) (globals : (l : ℕ) → In l → Envs At (known_at source l) (known_at source l)) (statics : (l : ℕ) → In l → (b : Binding) → b.place.level ≡ l → Bound At b b) where
+  abbrev pub Like : {A B : Type 0} → (A → B → Type 0) → Computation A → Computation B → Type 0
   Like P m n = Alike F P m n
 
-  then_like : {A B C D : Type 0} (P : A → B → Type 0) (Q : C → D → Type 0) (m : Step A) (n : Step B) (f : A → Step C) (g : B → Step D) → Like P m n → ((a : A) (b : B) → P a b → Like Q (f a) (g b)) → Like Q (m >>= f) (n >>= g)
+  then_like : {A B C D : Type 0} (P : A → B → Type 0) (Q : C → D → Type 0) (m : Computation A) (n : Computation B) (f : A → Computation C) (g : B → Computation D) → Like P m n → ((a : A) (b : B) → P a b → Like Q (f a) (g b)) → Like Q (m >>= f) (n >>= g)
   then_like P Q m n f g hm hf = alike_then F P Q m n f g hm hf
 
-  next_like : {A B C D : Type 0} (P : A → B → Type 0) (Q : C → D → Type 0) (m : Step A) (n : Step B) (f : Step C) (g : Step D) → Like P m n → Like Q f g → Like Q (m >> f) (n >> g)
+  next_like : {A B C D : Type 0} (P : A → B → Type 0) (Q : C → D → Type 0) (m : Computation A) (n : Computation B) (f : Computation C) (g : Computation D) → Like P m n → Like Q f g → Like Q (m >> f) (n >> g)
   next_like P Q m n f g hm hf = then_like P Q m n (λ _. f) (λ _. g) hm (λ a b p. hf)
 
   at_level : (d : Definition) → In d.level → Respects F At d.level
@@ -50,7 +50,7 @@ module _ (F : Family) (At : Place → Place → Type 0) (source : Source) (Known
   -- the statements of a body, where the names are known
   pub statements_like : (n n' : ℕ) (calls : Calls) (calls' : Calls) (d : Definition) → Known d → In d.level → Loops F At d.level n n' → CallsAlike F At Known d calls calls' → (e e' : Env) → Envs At e e'
       → Like (Endings At) (in_turn (map (doing_of (record { source = source; calls = calls; here = d }) n) d.body) 0 e) (in_turn (map (doing_of (record { source = source; calls = calls'; here = d }) n') d.body) 0 e')
-  statements_like n n' calls calls' d kn l loops hc e e' g = Statements.body_like F At source Known named d calls calls' (at_level d l) hc (statics d kn l) n n' loops d.body 0 e e' g
+  statements_like n n' calls calls' d kn l loops hc e e' g = Statements.body_like F At source Known named d calls calls' (at_level d l) hc (statics d.level l) n n' loops d.body 0 e e' g
 
   run_like : (n n' : ℕ) (calls : Calls) (calls' : Calls) (d : Definition) → Known d → (l : In d.level) → Loops F At d.level n n' → CallsAlike F At Known d calls calls' → (xs ys : List Argument) → Args At xs ys → Like (Endings At) (body_run source n calls d xs) (body_run source n' calls' d ys)
   run_like n n' calls calls' d kn l loops hc xs ys h =
@@ -84,7 +84,7 @@ module _ (F : Family) (At : Place → Place → Type 0) (source : Source) (Known
   by_like : (l : ℕ) → In l → (p q : Place) (root : Root) → At p q → Like Any (coerced_by p root) (coerced_by q root)
   by_like l i p q (admits taints) a = coerced_like l i p q taints a
   by_like l i p q open_to_all a = alike_pure F _ _ _ (tt)
-  by_like l i p q annotated a = alike_pure F _ _ _ (tt)
+  by_like l i p q labelled a = alike_pure F _ _ _ (tt)
 
   arrays_like : (l : ℕ) → In l → (ps : List Parameter) (xs ys : List Argument) → Args At xs ys → Like Any (arrays_coerced ps xs) (arrays_coerced ps ys)
   arrays_like l i [] [] [] h = alike_pure F _ _ _ (tt)
@@ -116,8 +116,8 @@ module _ (F : Family) (At : Place → Place → Type 0) (source : Source) (Known
   labels_same (Some t) v w s = each_same (carries_just (once t.result)) (carries_just (once t.result)) (λ x y r. r) v w s
 
   -- behind the body of a function: its result, and the labels of its arrays
-  abbrev pub behind : Definition → List Argument → Ending → Step Value
-  behind d args flow = result_of d flow >>= λ v. within d.level 0 end_call >> arrays_coerced d.params args >> pure (result_labels d.taints v)
+  abbrev pub behind : Definition → List Argument → Ending → Computation Value
+  behind d args ending = result_of d ending >>= λ v. within d.level 0 end_call >> arrays_coerced d.params args >> pure (result_labels d.taints v)
 
   pub behind_like : (d : Definition) → In d.level → (xs ys : List Argument) → Args At xs ys → (a b : Ending) → Endings At a b → Like Same (behind d xs a) (behind d ys b)
   behind_like d l xs ys h a b f =
@@ -127,7 +127,7 @@ module _ (F : Family) (At : Place → Place → Type 0) (source : Source) (Known
       (alike_pure F _ _ _ (labels_same d.taints v w s)))
 
   -- a call, where the callee's local call is alike and the far call is
-  pub chosen_like : (across : Across) (across' : Across) (call : Serving) (call' : Serving) (here : Definition) (line : ℕ) (d : Definition) → In here.level → (xs ys : List Argument) → Args At xs ys → (In d.level → Like Same (call d xs) (call' d ys)) → Like Same (across call here line d xs) (across' call' here line d ys)
+  pub chosen_like : (across : Across) (across' : Across) (call : LocalCall) (call' : LocalCall) (here : Definition) (line : ℕ) (d : Definition) → In here.level → (xs ys : List Argument) → Args At xs ys → (In d.level → Like Same (call d xs) (call' d ys)) → Like Same (across call here line d xs) (across' call' here line d ys)
       → Like Same (by_level call across here line d xs) (by_level call' across' here line d ys)
   chosen_like across across' call call' here line d l xs ys h near far =
       then_like Same Same (if here.level == d.level then call d xs else across call here line d xs) (if here.level == d.level then call' d ys else across' call' here line d ys) _ _
@@ -142,7 +142,7 @@ module _ (F : Family) (At : Place → Place → Type 0) (source : Source) (Known
 
   module _ (meet : F.Meets) where
     loops_at : (n n' : ℕ) → Bounds F.Lax n n' → (calls : Calls) (calls' : Calls) (d : Definition) → Known d → (l : In d.level) → CallsAlike F At Known d calls calls' → Loops F At d.level n n'
-    loops_at n n' bb calls calls' d kn l hc = Statements.loops_like F At source Known named d calls calls' (at_level d l) hc (statics d kn l) meet n n' bb
+    loops_at n n' bb calls calls' d kn l hc = Statements.loops_like F At source Known named d calls calls' (at_level d l) hc (statics d.level l) meet n n' bb
 
     pub body_like : (n n' : ℕ) → Bounds F.Lax n n' → (calls : Calls) (calls' : Calls) (d : Definition) → Known d → In d.level → CallsAlike F At Known d calls calls' → (xs ys : List Argument) → Args At xs ys → Like (Endings At) (body_run source n calls d xs) (body_run source n' calls' d ys)
     body_like n n' bb calls calls' d kn l hc xs ys h = run_like n n' calls calls' d kn l (loops_at n n' bb calls calls' d kn l hc) hc xs ys h

@@ -8,6 +8,7 @@ pub mod Statements
 pub mod LevelCalls
 pub mod SameLevel
 pub mod FarCalls
+pub mod Exits
 pub mod Locality
 pub mod LocalAlike
 pub mod StepsLeft
@@ -18,6 +19,7 @@ pub mod Examples
 pub mod PlainRuns
 pub mod Keeps
 pub mod Apart
+pub mod Numbers
 pub mod Reading
 pub mod Placed
 pub mod WholeRuns

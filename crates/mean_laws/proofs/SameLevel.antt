@@ -1,16 +1,16 @@
 -- Two runs in which one level is the same but for labels: the deeds of that level keep it so. This is the relation by which a
 -- level's own run follows the run of the whole: its code asks the same and does the same, whatever the other levels are.
-use Rattle.std.proofs.Common.{◌≡◌, ℕ, zero, suc, ◌+◌, ◌-◌, ◌<◌, ℤ, List, [], ◌∷◌, ◌++◌, length, refl, subst, sym, ap, Result, Ok, Err, Bool, true, false, if◌then◌else◌, get_or-set_same, length-set, ◌==◌, eqb-true, lt-ltb, inr}
+use Rattle.std.proofs.Common.{◌≡◌, ℕ, zero, suc, ◌+◌, ◌-◌, ◌<◌, ℤ, List, [], ◌∷◌, ◌++◌, length, refl, subst, sym, ap, Result, Ok, Err, Bool, true, false, if◌then◌else◌, get_or-set_same, length-set, ◌==◌, eqb-true, lt-ltb, inr, ◌∙◌}
 use Rattle.std.specs.Prelude.{nat_lt, nat_le, slice_index_or, slice_set}
 use Rattle.std.specs.List.{filter}
 use Rattle.cl_mean.specs.Source.{Binding, Env, Source, known_at}
 use Rattle.cl_base.specs.declared.limits.TheConstants.{OUTPUT_BYTES, ACTIVE_CALLS, FRAME_COST}
 use Rattle.cl_tree.specs.declared.kinds.TrapCause.TheVariants.{Steps, Depth, Output, Frames}
-use Rattle.cl_mean.specs.Value.{Value, Values, number, parts, no_more, ◌then◌, carries_too, part, with_part, with_nth, at_path, with_path}
-use Rattle.cl_mean.specs.State.{Object, no_object, Written, LevelState, silent, State, Place, Fault, trap, no_such_object, Deed, level_in, with_level, object_in, fetch, store, make, put_byte, next_of, get_byte, count_step, begin_call, end_call, pay, deeper}
+use Rattle.cl_mean.specs.Value.{Value, Values, number, parts, no_more, ◌then◌, carries_too, part, with_part, with_nth, at_path, with_path, is_path}
+use Rattle.cl_mean.specs.State.{Object, no_object, Written, LevelState, silent, State, Place, Fault, trap, no_such_object, Deed, level_in, with_level, object_in, fetch, store, make, put_byte, next_of, get_byte, count_step, begin_call, end_call, pay, deeper, is_there}
 use Rattle.cl_mean.specs.Course.{Stop, meaningless, stops, stop_by, done, within, fetched, stored, made}
 pub use Rattle.mean_laws.specs.Alike.{Objects, Agree, AtLevel}
-use Rattle.mean_laws.proofs.Alike.{Family, alike_pure, alike_then, by_states, Same, each_same, part_same, SameAll, Any, Ends, Alike, Respects, Envs}
+use Rattle.mean_laws.proofs.Alike.{Family, alike_pure, alike_then, by_states, Same, each_same, part_same, both_same, is_path_same, SameAll, Any, Ends, Alike, Respects, Bound, Envs}
 use Rattle.mean_laws.proofs.Statements.{Bytes1, BytesAll}
 
 -- ---- values
@@ -95,15 +95,20 @@ ended_if P c d cause x y e p h = subst (λ (z : Bool). Ended P (if c then Ok x e
     one true = (p, h)
     one false = refl
 
+there_same : (n : ℕ) (path : List ℕ) (a b : LevelState) → Agree a b → is_there a n path ≡ is_there b n path
+there_same n path a b h =
+    both_same (nat_lt n (length a.objects)) (nat_lt n (length b.objects)) (is_path (object_in a n).value path) (is_path (object_in b n).value path)
+    (ap (λ (m : ℕ). nat_lt n m) (objects_length a.objects b.objects h.objects)) (is_path_same path _ _ (object_same n a.objects b.objects h.objects))
+
 pub fetch_agrees : (n : ℕ) (path : List ℕ) → Deeds Same (fetch n path) (fetch n path)
 unfolding fetch
 fetch_agrees n path a b h =
-    ended_if Same _ _ no_such_object _ _ (ap (λ (m : ℕ). nat_lt n m) (objects_length a.objects b.objects h.objects)) (at_path_same path _ _ (object_same n a.objects b.objects h.objects)) h
+    ended_if Same _ _ no_such_object _ _ (there_same n path a b h) (at_path_same path _ _ (object_same n a.objects b.objects h.objects)) h
 
 pub store_agrees : (n : ℕ) (path : List ℕ) (v w : Value) → Same v w → Deeds Any (store n path v) (store n path w)
 unfolding store
 store_agrees n path v w s a b h =
-    ended_if Any _ _ no_such_object _ _ (ap (λ (m : ℕ). nat_lt n m) (objects_length a.objects b.objects h.objects)) tt
+    ended_if Any _ _ no_such_object _ _ (there_same n path a b h) tt
     (record {
       objects = objects_set n a.objects b.objects _ _ h.objects (with_path_same path _ _ _ _ (object_same n a.objects b.objects h.objects) (each_same (carries_too (object_in a n).own) (carries_too (object_in b n).own) (λ x y r. r) v w s));
       input = h.input;
@@ -224,6 +229,10 @@ module _ (Lax : Stop → Type 0) (L : ℕ) where
   -- The deeds of the level keep it the same: so expressions and statements of its functions do (`expression_like`, `statement_like`).
   pub level_respects : Respects (by_states (AtLevel L) Lax) (One L) L
   level_respects = one_respects (by_states (AtLevel L) Lax) L (λ A B P line f g h. within_agrees P line f g h)
+
+-- what lies at the level is bound to one place of it
+pub lies_at : (L l : ℕ) → l ≡ L → (b : Binding) → b.place.level ≡ l → Bound (One L) b b
+lies_at L l e b q = (refl, refl, (refl, q ∙ e), refl)
 
 -- the level's own names lie at its own places
 module _ (L : ℕ) where

@@ -1,5 +1,5 @@
 -- The steps left over all levels: no deed raises them, and a step that is counted lowers them.
-use Rattle.std.proofs.Common.{◌≡◌, ℕ, zero, suc, ◌+◌, ◌<◌, ◌≤◌, arith, List, [], ◌∷◌, length, refl, Result, Ok, Err, Bool, true, false, if◌then◌else◌, ltb-true}
+use Rattle.std.proofs.Common.{◌≡◌, ℕ, zero, suc, ◌+◌, ◌<◌, ◌≤◌, arith, List, [], ◌∷◌, refl, Result, Ok, Err, Bool, true, false, if◌then◌else◌, ltb-true}
 use Rattle.std.specs.Prelude.{slice_index_or, slice_set, nat_lt}
 use Rattle.cl_tree.specs.declared.kinds.TrapCause.TheVariants.{Steps, Depth, Output, Frames}
 use Rattle.cl_mean.specs.Value.{Value}
@@ -35,11 +35,11 @@ falls_if false l x fault h = tt
 
 pub fetch_falls : (n : ℕ) (path : List ℕ) → Falls (fetch n path)
 unfolding fetch
-fetch_falls n path l = falls_if (nat_lt n (length l.objects)) l _ no_such_object (omega arith)
+fetch_falls n path l = falls_if _ l _ no_such_object (omega arith)
 
 pub store_falls : (n : ℕ) (path : List ℕ) (v : Value) → Falls (store n path v)
 unfolding store
-store_falls n path v l = falls_if (nat_lt n (length l.objects)) l _ no_such_object (omega arith)
+store_falls n path v l = falls_if _ l _ no_such_object (omega arith)
 
 pub make_falls : (o : Object) → Falls (make o)
 unfolding make

@@ -3,7 +3,7 @@ use Rattle.std.specs.Prelude.{◌≡◌, ℕ, ◌<◌, List, [], ◌∷◌, leng
 use Rattle.cl_mean.specs.Value.{Labelled, Value, Values, number, parts, no_more, ◌then◌}
 use Rattle.cl_mean.specs.State.{Object, Written, LevelState, State, level_in}
 use Rattle.cl_mean.specs.Course.{Course, comes, stops, asks, Stop, Ask, Reply}
-use Rattle.cl_mean.specs.Guarded.{Content, holds, blocked, broken, Crossing, Guarded}
+use Rattle.cl_mean.specs.Guarded.{Content, holds, blocked, broken, Crossing, Kept}
 
 -- ---- values that differ in labels alone
 
@@ -39,7 +39,7 @@ Replies (Some xs) (Some ys) = Nums xs ys
 
 -- the same call with the same numbers
 abbrev pub Asks : Ask → Ask → Type 0
-Asks a b = (a.from ≡ b.from) × (a.row ≡ b.row) × (a.callee ≡ b.callee) × Nums a.values b.values
+Asks a b = (a.from ≡ b.from) × (a.row ≡ b.row) × (a.callee ≡ b.callee) × (a.entry ≡ b.entry) × Nums a.values b.values
 
 -- ---- courses side by side
 
@@ -111,5 +111,5 @@ Crossings [] (b ∷ bs) = ⊥
 Crossings (a ∷ xs) [] = ⊥
 Crossings (a ∷ xs) (b ∷ bs) = Crossing1 a b × Crossings xs bs
 
-abbrev pub Between : Guarded → Guarded → Type 0
+abbrev pub Between : Kept → Kept → Type 0
 Between a b = (a.law ≡ b.law) × (a.houses ≡ b.houses) × Crossings a.crossings b.crossings

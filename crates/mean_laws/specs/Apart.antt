@@ -5,7 +5,7 @@ use Rattle.cl_mean.specs.State.{State, level_in}
 use Rattle.cl_mean.specs.Source.{Definition, Source}
 use Rattle.cl_mean.specs.Course.{Course, comes, stops, asks, Stop, unbounded, Ask, Reply}
 use Rattle.cl_mean.specs.Calls.{far, call_at, local_call, served}
-use Rattle.cl_mean.specs.Guarded.{holds, blocked, broken, Guarded, crossed, judging, let_through, judged_by, Outcome, Serves}
+use Rattle.cl_mean.specs.Guarded.{holds, blocked, broken, Kept, crossed, judging, let_through, judged_by, GuardedRun, Serves}
 use Rattle.mean_laws.specs.Alike.{Nums, Replies, Asks, AtLevel, Between}
 
 -- ---- what a level's code leaves alone
@@ -37,28 +37,28 @@ put mem L s = λ M. if L == M then s else mem M
 pub record Came (A : Type 0) : Type 0 where
   pub result : Result A Stop
   pub parts : Parts
-  pub kept : Guarded
+  pub kept : Kept
 
 abbrev pub ServesApart : Type 0
-ServesApart = Definition → List Labelled → Parts → Guarded → Came (List Labelled)
+ServesApart = Definition → List Labelled → Parts → Kept → Came (List Labelled)
 
 abbrev pub GoesApart : Type 0 → Type 0
-GoesApart A = Reply → Parts → Guarded → Came A
+GoesApart A = Reply → Parts → Kept → Came A
 
-abbrev pub replied_apart : {A : Type 0} → Ask → GoesApart A → Parts → Guarded → Option (List Labelled) → Came A
+abbrev pub replied_apart : {A : Type 0} → Ask → GoesApart A → Parts → Kept → Option (List Labelled) → Came A
 replied_apart a again mem g None = again None mem (crossed g a true blocked)
 replied_apart a again mem g (Some ys) = again (Some ys) mem (crossed g a true (holds ys))
 
-abbrev pub answered_apart : {A : Type 0} → Ask → GoesApart A → Parts → Guarded → Result (List Labelled) Stop → Came A
+abbrev pub answered_apart : {A : Type 0} → Ask → GoesApart A → Parts → Kept → Result (List Labelled) Stop → Came A
 answered_apart a again mem g (Err stop) = record { result = Err stop; parts = mem; kept = crossed g a true broken }
 answered_apart a again mem g (Ok ys) = replied_apart a again mem (judged_by (judging g a true ys) g) (let_through (judging g a true ys))
 
-abbrev pub requested_apart : {A : Type 0} → ServesApart → Ask → GoesApart A → Parts → Guarded → Option (List Labelled) → Came A
+abbrev pub requested_apart : {A : Type 0} → ServesApart → Ask → GoesApart A → Parts → Kept → Option (List Labelled) → Came A
 requested_apart serves a again mem g None = again None mem (crossed (crossed g a false blocked) a true blocked)
 requested_apart serves a again mem g (Some xs) = answered_apart a again (serves a.callee xs mem (crossed g a false (holds xs))).parts (serves a.callee xs mem (crossed g a false (holds xs))).kept (serves a.callee xs mem (crossed g a false (holds xs))).result
 
 -- the course of a level: it goes on from its own state
-abbrev pub apart : {A : Type 0} → ServesApart → ℕ → Course A → Parts → Guarded → Came A
+abbrev pub apart : {A : Type 0} → ServesApart → ℕ → Course A → Parts → Kept → Came A
 apart serves L (comes x s) mem g = record { result = Ok x; parts = put mem L s; kept = g }
 apart serves L (stops h s) mem g = record { result = Err h; parts = put mem L s; kept = g }
 apart serves L (asks a s rest) mem g =
@@ -91,9 +91,9 @@ AsksBelow count rank Known L (asks a s rest) = (Known a.callee × (a.callee.leve
 abbrev pub AboveStay : (ℕ → ℕ) → ℕ → Parts → Parts → Type 0
 AboveStay rank L m m' = (M : ℕ) → rank L ≤ rank M → (M ≡ L → ⊥) → m' M ≡ m M
 
-abbrev pub CameSame : {A B : Type 0} → ℕ → (ℕ → ℕ) → (A → B → Type 0) → ℕ → Parts → Outcome A → Came B → Type 0
-CameSame count rank P L mem r c = Outs P (EachSame count r.levels c.parts × Between r.guarded c.kept × AboveStay rank L mem c.parts) r.result c.result
+abbrev pub CameSame : {A B : Type 0} → ℕ → (ℕ → ℕ) → (A → B → Type 0) → ℕ → Parts → GuardedRun A → Came B → Type 0
+CameSame count rank P L mem r c = Outs P (EachSame count r.levels c.parts × Between r.kept c.kept × AboveStay rank L mem c.parts) r.result c.result
 
 -- serving over one state and over a state for each level comes to the same
 abbrev pub ServeSame : ℕ → (ℕ → ℕ) → (Definition → Type 0) → Serves → ServesApart → Type 0
-ServeSame count rank Known f f' = (d : Definition) → Known d × (d.level < count) → (xs ys : List Labelled) → Nums xs ys → (s : State) (mem : Parts) → EachSame count s mem → (g h : Guarded) → Between g h → CameSame count rank Nums d.level mem (f d xs s g) (f' d ys mem h)
+ServeSame count rank Known f f' = (d : Definition) → Known d × (d.level < count) → (xs ys : List Labelled) → Nums xs ys → (s : State) (mem : Parts) → EachSame count s mem → (g h : Kept) → Between g h → CameSame count rank Nums d.level mem (f d xs s g) (f' d ys mem h)

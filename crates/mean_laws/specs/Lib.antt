@@ -1,3 +1,4 @@
 pub mod Alike
 pub mod Runs
+pub mod Frames
 pub mod Apart

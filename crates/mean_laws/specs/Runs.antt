@@ -1,18 +1,17 @@
 -- What the laws say of runs.
-use Rattle.std.specs.Prelude.{◌≡◌, ℕ, suc, ℤ, Bool, true, false, List, [], ◌∷◌, ◌++◌, Option, Some, None, Result, Ok, Err, ◌⊎◌}
+use Rattle.std.specs.Prelude.{◌≡◌, ℕ, suc, ℤ, Bool, true, false, List, [], ◌∷◌, ◌++◌, Some, Result, Ok, Err, ◌⊎◌}
 use Rattle.cl_tree.specs.Words.{Word}
 use Rattle.cl_mean.specs.declared.checked.Checked.{Checked}
 use Rattle.cl_mean.specs.declared.law.Law.{Law}
 use Rattle.cl_mean.specs.Value.{Labelled}
 use Rattle.cl_mean.specs.State.{State}
-use Rattle.cl_mean.specs.Source.{Binding, Definition, Source, source_of, function_named, function_at}
+use Rattle.cl_mean.specs.Source.{Definition, Source, source_of, function_named, function_at}
 use Rattle.cl_mean.specs.Course.{Course, comes, stops, asks, Stop, unbounded, Reply}
-use Rattle.cl_mean.specs.Execution.{binding_at}
 use Rattle.cl_mean.specs.Calls.{far}
-use Rattle.cl_mean.specs.Guarded.{Guarded, Outcome, guarded, serves_at}
-use Rattle.cl_mean.specs.Meaning.{bound_of, main_step, guarded_start}
+use Rattle.cl_mean.specs.Guarded.{Kept, GuardedRun, guarded, serves_at}
+use Rattle.cl_mean.specs.Meaning.{bound_of, main_course, guarded_start}
 use Rattle.cl_mean.specs.Journal.{Frame, Said, says_stop, message}
-use Rattle.cl_mean.specs.LocalRun.{Stand, rests, waits, over, Local, row_at, served_by, serving_of, acted_all, began_in}
+use Rattle.cl_mean.specs.LocalRun.{Stand, rests, waits, over, LevelRun, serving_of, acted_all, began_in}
 use Rattle.mean_laws.specs.Alike.{Nums, Replies, Asks, SideBySide, AtLevel, LevelsAll, Between}
 
 -- ---- guarded runs
@@ -26,8 +25,8 @@ SameResult Lax P S (Err h) (Ok b) = Lax h
 SameResult Lax P S (Err h) (Err k) = Lax h ⊎ ((h ≡ k) × S)
 
 -- the same numbers or the same stop, the same levels, the same laws, the same crossings: all but for labels
-abbrev pub SameOutcome : (Stop → Type 0) → Outcome (List Labelled) → Outcome (List Labelled) → Type 0
-SameOutcome Lax r q = SameResult Lax Nums (LevelsAll r.levels q.levels × Between r.guarded q.guarded) r.result q.result
+abbrev pub SameOutcome : (Stop → Type 0) → GuardedRun (List Labelled) → GuardedRun (List Labelled) → Type 0
+SameOutcome Lax r q = SameResult Lax Nums (LevelsAll r.levels q.levels × Between r.kept q.kept) r.result q.result
 
 abbrev pub Never : Stop → Type 0
 Never stop = ⊥
@@ -35,18 +34,18 @@ Never stop = ⊥
 abbrev pub IsUnbounded : Stop → Type 0
 IsUnbounded stop = stop ≡ unbounded
 
--- the guarded run of `main` from a state, with a bound on turns and calls
-abbrev pub run_from : Checked → Law → List Law → ℕ → State → Outcome (List Labelled)
+-- the guarded run of `main` from a state, with a bound on rounds and calls
+abbrev pub run_from : Checked → Law → List Law → ℕ → State → GuardedRun (List Labelled)
 run_from checked law houses bound state =
-    guarded (serves_at (source_of checked) bound bound) (main_step checked (far (source_of checked)) bound state) (guarded_start law houses)
+    guarded (serves_at (source_of checked) bound bound) (main_course checked (far (source_of checked)) bound state) (guarded_start law houses)
 
 -- an outcome, and then what its result chooses; a stop stays
-abbrev pub on_result : {A B : Type 0} → (A → State → Guarded → Outcome B) → State → Guarded → Result A Stop → Outcome B
+abbrev pub on_result : {A B : Type 0} → (A → State → Kept → GuardedRun B) → State → Kept → Result A Stop → GuardedRun B
 on_result next state g (Ok a) = next a state g
-on_result next state g (Err stop) = record { result = Err stop; levels = state; guarded = g }
+on_result next state g (Err stop) = record { result = Err stop; levels = state; kept = g }
 
-abbrev pub then_run : {A B : Type 0} → (A → State → Guarded → Outcome B) → Outcome A → Outcome B
-then_run next r = on_result next r.levels r.guarded r.result
+abbrev pub then_run : {A B : Type 0} → (A → State → Kept → GuardedRun B) → GuardedRun A → GuardedRun B
+then_run next r = on_result next r.levels r.kept r.result
 
 -- ---- plain runs
 
@@ -57,7 +56,7 @@ NeverAsks (asks a s rest) = ⊥
 
 -- ---- the bound
 
--- the course doesn't stop because the bound on turns and calls is met
+-- the course doesn't stop because the bound on rounds and calls is met
 abbrev pub Unmet : {A : Type 0} → Course A → Type 0
 Unmet x = (state : State) → x ≡ stops unbounded state → ⊥
 
@@ -78,10 +77,10 @@ SameStand L (over s) (over t) = AtLevel L s t
 SameStand L _ _ = ⊥
 
 -- it stands alike, sent the same frames and met the same ends
-abbrev pub SameLocal : ℕ → Local → Local → Type 0
+abbrev pub SameLocal : ℕ → LevelRun → LevelRun → Type 0
 SameLocal L l m = SameStand L l.stand m.stand × (l.sent ≡ m.sent) × (l.ends ≡ m.ends)
 
-abbrev pub IsOver : Local → Type 0
+abbrev pub IsOver : LevelRun → Type 0
 IsOver l = (state : State) × (l.stand ≡ over state)
 
 abbrev pub is_stop : Said → Bool
@@ -93,21 +92,12 @@ pub data Adds (turn : ℕ) (said : Said) (before : List Frame) (now : List Frame
   nothing_more : now ≡ before → Adds turn said before now
   one_frame : (f : Frame) → f.turn ≡ suc turn → is_stop said ≡ false → now ≡ before ++ f ∷ [] → Adds turn said before now
 
--- ---- where the objects and the functions of a source lie
-
-abbrev pub LiesAt : ℕ → Option Binding → Type 0
-LiesAt level None = Unit {0}
-LiesAt level (Some b) = b.place.level ≡ level
+-- ---- the functions of a source
 
 -- a function of the source: by a name, or by a number
 abbrev pub IsFunctionOf : Source → Definition → Type 0
 IsFunctionOf source d = ((name : Word) × (function_named source.functions name ≡ Some d)) ⊎ ((k : ℕ) × (function_at source.functions k ≡ Some d))
 
--- Each function's static locals lie at its level, and a row leads to its function's level.
-pub record IsPlaced (source : Source) : Type 0 where
-  pub statics : (d : Definition) → IsFunctionOf source d → (k : ℕ) → LiesAt d.level (binding_at d.statics k)
-  pub rows : (k level : ℕ) (d : Definition) → served_by source level (row_at source.rows k) ≡ Some d → d.level ≡ level
-
 -- a level's own run from a state, given the frames that it received
-abbrev pub local_from : Checked → ℕ → ℕ → State → List Frame → Local
-local_from checked level steps state frames = acted_all (source_of checked) (bound_of checked steps) level (began_in checked level steps state) frames
+abbrev pub local_from : Checked → ℕ → ℕ → State → List Frame → LevelRun
+local_from checked level limit state frames = acted_all (source_of checked) (bound_of checked limit) level (began_in checked level limit state) frames

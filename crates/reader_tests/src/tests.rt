@@ -1,4 +1,5 @@
-// Sources in tables. What is wanted comes from C11 and the rules of the profile.
+// Sources in tables, each in a constant, since a table within a test makes its proof slow. What is wanted comes from
+// C11 and the rules of the profile.
 
 mod kinds;
 mod limits;
@@ -7,7 +8,6 @@ mod plain;
 mod refusals;
 mod shown;
 mod spelling;
-mod tokens;
 mod values;
 
 use cl_base::limits::SOURCE_BYTES;

@@ -1,4 +1,4 @@
-ghost use Rattle.std.specs.Prelude.{◌≡◌, length, IfOk};
+ghost use Rattle.std.specs.Prelude.{◌≡◌, ◌≤◌, length, IfOk};
 
 use cl_base::limits::{FRAME_BYTES, PAYLOAD_BYTES};
 use cl_base::name::{Name, NoMemory};
@@ -10,7 +10,7 @@ use hal_route::hal::Hal;
 use hal_route::uplink::{BadUplink, Passed, Test};
 use rpc_codec::frame::{FrameBuf, Header};
 use sqlite_items::Items;
-use std::alloc::Global;
+use std::alloc::{AllocError, Global};
 use std::process::Abort;
 use std::test::Fail;
 
@@ -69,6 +69,12 @@ fn checked(alloc: Global, request: u32) -> Result<Checked, NoMemory>
     })
 }
 
+/// A router for that program.
+fn opened(alloc: Global, request: u32) -> Result<Hal, NoMemory> {
+    let checked = checked(alloc, request)?;
+    Hal::open(alloc, &checked)
+}
+
 const REQUEST: &[u8] = b"\0\0\0\x01\0\0\0\x01\0\0\0\x01\0\0\0\0\0\0\0\x01\0\0\0\0\0";
 
 const REPLY: &[u8] = b"\0\0\0\x01\0\0\0\x01\0\0\0\x02\0\0\0\0\0\0\0\x02\0\0\0\0\x04\0\0\0\x01";
@@ -91,23 +97,26 @@ fn take(
     passed
 }
 
+/// A sender, its frame, where it goes, and the frames and the room behind it.
+const PASSED: [(u32, &[u8], Passed, u64, usize); 3] = [
+    (0, REQUEST, Passed::To(1), 1, 8396825),
+    (1, REPLY, Passed::To(0), 2, 8396796),
+    (
+        0,
+        b"\0\0\0\0\0\0\0\0\0\0\0\0\0\0\0\0\0\0\0\x03\x03\0\0\0\0",
+        Passed::Stop,
+        2,
+        8396796,
+    ),
+];
+
 #[test]
 fn a_run_is_passed_on(rt: HostRuntime) -> Result<(), Fail> {
-    let mut hal = Hal::open(rt.alloc(), &checked(rt.alloc(), 0)?)?;
+    let mut hal = opened(rt.alloc(), 0)?;
     let mut frame = FrameBuf::open(rt.alloc())?;
     assert_eq!(rt; hal.room(), 8396850);
-    let steps: [(u32, &[u8], Passed, u64, usize); 3] = [
-        (0, REQUEST, Passed::To(1), 1, 8396825),
-        (1, REPLY, Passed::To(0), 2, 8396796),
-        (
-            0,
-            b"\0\0\0\0\0\0\0\0\0\0\0\0\0\0\0\0\0\0\0\x03\x03\0\0\0\0",
-            Passed::Stop,
-            2,
-            8396796,
-        ),
-    ];
-    for (from, bytes, passed, frames, room) in steps {
+    for row in &PASSED {
+        let (from, bytes, passed, frames, room) = *row;
         assert_eq!(rt; take(&rt, &mut hal, &mut frame, from, bytes), Ok(passed));
         assert_eq!(rt; hal.frames(), frames);
         assert_eq!(rt; hal.room(), room);
@@ -118,7 +127,7 @@ fn a_run_is_passed_on(rt: HostRuntime) -> Result<(), Fail> {
 
 #[test]
 fn a_reply_may_have_no_values(rt: HostRuntime) -> Result<(), Fail> {
-    let mut hal = Hal::open(rt.alloc(), &checked(rt.alloc(), 0)?)?;
+    let mut hal = opened(rt.alloc(), 0)?;
     let mut frame = FrameBuf::open(rt.alloc())?;
     let bytes = b"\0\0\0\x01\0\0\0\x01\0\0\0\x02\0\0\0\0\0\0\0\x01\x02\0\0\0\0";
     assert_eq!(rt;
@@ -128,68 +137,71 @@ fn a_reply_may_have_no_values(rt: HostRuntime) -> Result<(), Fail> {
     Ok(())
 }
 
+/// A sender, its frame, and the test that it fails.
+const REFUSED: [(u32, &[u8], Test); 12] = [
+    // 24 bytes; one byte behind the header; kinds 1 and 4; the stop tag with kind 0; kind 3 with a row's tag.
+    (
+        0,
+        b"\0\0\0\x01\0\0\0\x01\0\0\0\x01\0\0\0\0\0\0\0\x01\0\0\0\0",
+        Test::Spelling,
+    ),
+    (
+        0,
+        b"\0\0\0\x01\0\0\0\x01\0\0\0\x01\0\0\0\0\0\0\0\x01\0\0\0\0\0\0",
+        Test::Spelling,
+    ),
+    (
+        0,
+        b"\0\0\0\x01\0\0\0\x01\0\0\0\x01\0\0\0\0\0\0\0\x01\x01\0\0\0\0",
+        Test::Spelling,
+    ),
+    (
+        0,
+        b"\0\0\0\x01\0\0\0\x01\0\0\0\x01\0\0\0\0\0\0\0\x01\x04\0\0\0\0",
+        Test::Spelling,
+    ),
+    (
+        0,
+        b"\0\0\0\0\0\0\0\0\0\0\0\0\0\0\0\0\0\0\0\x01\0\0\0\0\0",
+        Test::Spelling,
+    ),
+    (
+        0,
+        b"\0\0\0\x01\0\0\0\x01\0\0\0\x01\0\0\0\0\0\0\0\x01\x03\0\0\0\0",
+        Test::Spelling,
+    ),
+    // The reply from the caller; the request from the callee; the stop frame from a level without `main`.
+    (0, REPLY, Test::Route),
+    (1, REQUEST, Test::Route),
+    (
+        1,
+        b"\0\0\0\0\0\0\0\0\0\0\0\0\0\0\0\0\0\0\0\x01\x03\0\0\0\0",
+        Test::Route,
+    ),
+    // A request with kind 2; the request with turn 2; a request with four bytes.
+    (
+        0,
+        b"\0\0\0\x01\0\0\0\x01\0\0\0\x01\0\0\0\0\0\0\0\x01\x02\0\0\0\0",
+        Test::Route,
+    ),
+    (
+        0,
+        b"\0\0\0\x01\0\0\0\x01\0\0\0\x01\0\0\0\0\0\0\0\x02\0\0\0\0\0",
+        Test::Turn,
+    ),
+    (
+        0,
+        b"\0\0\0\x01\0\0\0\x01\0\0\0\x01\0\0\0\0\0\0\0\x01\0\0\0\0\x04\0\0\0\0",
+        Test::Length,
+    ),
+];
+
 #[test]
 fn the_first_failed_test_is_named(rt: HostRuntime) -> Result<(), Fail> {
-    let mut hal = Hal::open(rt.alloc(), &checked(rt.alloc(), 0)?)?;
+    let mut hal = opened(rt.alloc(), 0)?;
     let mut frame = FrameBuf::open(rt.alloc())?;
-    let refused: [(u32, &[u8], Test); 12] = [
-        // 24 bytes; one byte behind the header; kinds 1 and 4; the stop tag with kind 0; kind 3 with a row's tag.
-        (
-            0,
-            b"\0\0\0\x01\0\0\0\x01\0\0\0\x01\0\0\0\0\0\0\0\x01\0\0\0\0",
-            Test::Spelling,
-        ),
-        (
-            0,
-            b"\0\0\0\x01\0\0\0\x01\0\0\0\x01\0\0\0\0\0\0\0\x01\0\0\0\0\0\0",
-            Test::Spelling,
-        ),
-        (
-            0,
-            b"\0\0\0\x01\0\0\0\x01\0\0\0\x01\0\0\0\0\0\0\0\x01\x01\0\0\0\0",
-            Test::Spelling,
-        ),
-        (
-            0,
-            b"\0\0\0\x01\0\0\0\x01\0\0\0\x01\0\0\0\0\0\0\0\x01\x04\0\0\0\0",
-            Test::Spelling,
-        ),
-        (
-            0,
-            b"\0\0\0\0\0\0\0\0\0\0\0\0\0\0\0\0\0\0\0\x01\0\0\0\0\0",
-            Test::Spelling,
-        ),
-        (
-            0,
-            b"\0\0\0\x01\0\0\0\x01\0\0\0\x01\0\0\0\0\0\0\0\x01\x03\0\0\0\0",
-            Test::Spelling,
-        ),
-        // The reply from the caller; the request from the callee; the stop frame from a level without `main`.
-        (0, REPLY, Test::Route),
-        (1, REQUEST, Test::Route),
-        (
-            1,
-            b"\0\0\0\0\0\0\0\0\0\0\0\0\0\0\0\0\0\0\0\x01\x03\0\0\0\0",
-            Test::Route,
-        ),
-        // A request with kind 2; the request with turn 2; a request with four bytes.
-        (
-            0,
-            b"\0\0\0\x01\0\0\0\x01\0\0\0\x01\0\0\0\0\0\0\0\x01\x02\0\0\0\0",
-            Test::Route,
-        ),
-        (
-            0,
-            b"\0\0\0\x01\0\0\0\x01\0\0\0\x01\0\0\0\0\0\0\0\x02\0\0\0\0\0",
-            Test::Turn,
-        ),
-        (
-            0,
-            b"\0\0\0\x01\0\0\0\x01\0\0\0\x01\0\0\0\0\0\0\0\x01\0\0\0\0\x04\0\0\0\0",
-            Test::Length,
-        ),
-    ];
-    for (from, bytes, test) in refused {
+    for row in &REFUSED {
+        let (from, bytes, test) = *row;
         assert_eq!(rt;
             take(&rt, &mut hal, &mut frame, from, bytes),
             Err(BadUplink { test })
@@ -200,29 +212,51 @@ fn the_first_failed_test_is_named(rt: HostRuntime) -> Result<(), Fail> {
     Ok(())
 }
 
+/// So many zeros. (Where the count is written out, the proof counts up to it.)
+fn zeros(alloc: Global, count: usize) -> Result<Vec<u8>, AllocError>
+    ensures { IfOk result (λ bytes. length bytes.items ≡ count) }
+{
+    vec![in alloc; 0u8; count]
+}
+
+/// What the router says of a request with this payload, at a turn.
+fn sent(hal: &mut Hal, frame: &mut FrameBuf, payload: &[u8], turn: u64) -> Result<Passed, BadUplink>
+    requires { length payload.now ≤ 4096 }
+{
+    frame.set_header(Header {
+        mux: 1,
+        sec: 1,
+        typ: 1,
+        turn,
+        kind: 0,
+        length: 4096,
+    });
+    frame.push_bytes(payload);
+    hal.take(0, frame)
+}
+
+/// How many requests the router passes on, of those at the first turns.
+fn passed(hal: &mut Hal, frame: &mut FrameBuf, payload: &[u8], turns: u64) -> u64
+    requires { length payload.now ≤ 4096 }
+{
+    let mut count = 0u64;
+    for turn in 0..turns {
+        if sent(hal, frame, payload, turn + 1) == Ok(Passed::To(1)) {
+            count = count.saturating_add(1);
+        }
+    }
+    count
+}
+
 /// 2036 frames of 4121 bytes leave 6494 of the 8396850 bytes of the journal.
 #[test]
 fn a_full_journal_takes_no_frame(rt: HostRuntime) -> Result<(), Fail> {
-    let mut hal = Hal::open(rt.alloc(), &checked(rt.alloc(), 4096)?)?;
+    let mut hal = opened(rt.alloc(), 4096)?;
     let mut frame = FrameBuf::open(rt.alloc())?;
-    let payload = vec![in rt.alloc(); 0u8; PAYLOAD_BYTES]?;
-    for turn in 1..2038 {
-        frame.set_header(Header {
-            mux: 1,
-            sec: 1,
-            typ: 1,
-            turn,
-            kind: 0,
-            length: 4096,
-        });
-        frame.push_bytes(&payload);
-        let passed = hal.take(0, &mut frame);
-        if turn <= 2036 {
-            assert_eq!(rt; passed, Ok(Passed::To(1)));
-        } else {
-            assert_eq!(rt; passed, Err(BadUplink { test: Test::Room }));
-        }
-    }
+    let payload = zeros(rt.alloc(), PAYLOAD_BYTES)?;
+    assert_eq!(rt; passed(&mut hal, &mut frame, &payload, 2036), 2036);
+    let room = BadUplink { test: Test::Room };
+    assert_eq!(rt; sent(&mut hal, &mut frame, &payload, 2037), Err(room));
     assert_eq!(rt; hal.frames(), 2036);
     assert_eq!(rt; hal.room(), 6494);
     Ok(())

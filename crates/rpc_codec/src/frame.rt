@@ -25,6 +25,17 @@ pub const STOP: u8 = 3;
 /// Bytes of a header.
 pub const HEADER_BYTES: usize = 25;
 
+// Contracts cite these constants by their names, so the numbers stand here once more.
+const _: () = prove!(VALUES == 0);
+
+const _: () = prove!(BLOCKED == 1);
+
+const _: () = prove!(BROKEN == 2);
+
+const _: () = prove!(STOP == 3);
+
+const _: () = prove!(HEADER_BYTES == 25);
+
 /// What stands before the payload of a frame. `mux`, `sec` and `typ` are the tag by which the frame finds its way. A
 /// header that was read may have any numbers: a kind that there is none of, or a length that is not the payload's.
 #[derive(Clone, Copy, Debug, PartialEq, Eq)]

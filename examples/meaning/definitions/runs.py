@@ -17,7 +17,7 @@ def content_of(frame):
     """What a frame holds: the list of its numbers, or a word."""
     content = whnf(frame.content)
     if content.name != 'holds':
-        return content.name.removeprefix('is_')
+        return content.name
     return [whnf(x.fields['number']) for x in listed(content.args[0])]
 
 
@@ -78,7 +78,7 @@ class Meaning:
     # ---- each level by itself
 
     def joined(self, program, inputs, steps):
-        """The own runs of all levels, where each frame that one sends goes on to the level that it is for.
+        """The own runs of all levels, where the bytes of each frame that one sends go on to the level that it is for.
 
         What came of it: each level's output, the number of frames without the stop frame, the end.
         """
@@ -90,7 +90,8 @@ class Meaning:
         while moved and count < PASSED_ON_AT_MOST:
             moved = False
             for level in levels:
-                runs[level] = self.call('LocalRun', 'local', checked, level, sequence(inputs[level]), steps, sequence(received[level]))
+                given, frames = sequence(inputs[level]), sequence(received[level])
+                runs[level] = self.call('LocalRun', 'level_run_by_bytes', checked, level, given, steps, frames)
                 sent = listed(runs[level].fields['sent'])
                 for frame in sent[sent_on[level]:]:
                     moved = True
@@ -102,15 +103,16 @@ class Meaning:
         return outputs, count, (traps or ends)[0]
 
     def pass_on(self, program, level, frame, received):
-        """Hands a frame to the level that it is for, the stop frame to all others. How many crossings it is."""
+        """Hands a frame's bytes to the level that it is for, a stop frame's to all others. How many crossings it is."""
         said = whnf(frame.fields['said'])
+        sent = sequence(listed(self.call('Journal', 'bytes_of', self.source(program), frame)))
         if said.name == 'says_stop':
             for other, frames in enumerate(received):
                 if other != level:
-                    frames.append(frame)
+                    frames.append(sent)
             return 0
         caller, callee, _ = program.rows[whnf(said.args[0])]
-        received[caller if whnf(said.args[1]) else callee].append(frame)
+        received[caller if whnf(said.args[1]) else callee].append(sent)
         return 1
 
 

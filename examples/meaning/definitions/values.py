@@ -134,9 +134,26 @@ def listed(value):
     return [whnf(x) for x in elements(value)]
 
 
+def computed(value):
+    """The value, computed in all its parts, so that none holds on to what it is computed from."""
+    value = whnf(value)
+    wanted = [value]
+    while wanted:
+        held = wanted.pop()
+        kind = held.__class__
+        if kind is Con:
+            wanted.extend(whnf(x) for x in held.args)
+        elif kind is Rec:
+            wanted.extend(whnf(x) for x in held.fields.values())
+        elif kind is Seq:
+            wanted.extend(whnf(x) for x in held.buffer[held.start:held.end])
+    return value
+
+
 def with_last(front, last):
-    """`front ++ last ∷ []`."""
+    """`front ++ last ∷ []`. What a list grows by is computed: outputs and crossings grow so, and last as long as a run."""
     front = whnf(front)
+    last = computed(last)
     if front is NIL or front.__class__ is Con and front.name == '[]':
         return Seq([last], 0, 1)
     if front.__class__ is not Seq:

@@ -21,63 +21,66 @@ const BROKEN: &[u8] = b"\0\0\0\x01\0\0\0\x01\0\0\0\x01\0\0\0\0\0\0\0\x01\0\0\0\0
 \0\0\0\x01\0\0\0\x01\0\0\0\x01\0\0\0\0\0\0\0\x03\0\0\0\0\0\
 \0\0\0\x01\0\0\0\x01\0\0\0\x02\0\0\0\0\0\0\0\x04\x02\0\0\0\0";
 
-#[test]
-fn journals_are_kept(rt: HostRuntime) -> Result<(), Fail> {
-    for case in [
-        Case {
-            line: "run --journal j a.c",
-            head: PAIR,
-            body: TWELVE,
-            out: b"level purple 2 bytes\n12\nlevel orange 0 bytes\n\nframes 4\nend exit 0\n",
-            journal: Some(TWO_CALLS),
-            ..PLAIN
-        },
-        // No journal is asked for.
-        Case {
-            head: PAIR,
-            body: TWELVE,
-            out: b"level purple 2 bytes\n12\nlevel orange 0 bytes\n\nframes 4\nend exit 0\n",
-            ..PLAIN
-        },
-        Case {
-            line: "run --journal=j a.c",
-            head: PAIR,
-            body: "int f(void) { a = a + 2147483647; return a; }
+/// Commands with and without a journal.
+const KEPT: [Case<'static>; 6] = [
+    Case {
+        line: "run --journal j a.c",
+        head: PAIR,
+        body: TWELVE,
+        out: b"level purple 2 bytes\n12\nlevel orange 0 bytes\n\nframes 4\nend exit 0\n",
+        journal: Some(TWO_CALLS),
+        ..PLAIN
+    },
+    // No journal is asked for.
+    Case {
+        head: PAIR,
+        body: TWELVE,
+        out: b"level purple 2 bytes\n12\nlevel orange 0 bytes\n\nframes 4\nend exit 0\n",
+        ..PLAIN
+    },
+    Case {
+        line: "run --journal=j a.c",
+        head: PAIR,
+        body: "int f(void) { a = a + 2147483647; return a; }
 int main(void) { putchar(65); return f() - f(); }
 ",
-            out: b"level purple 1 bytes\nA\nlevel orange 0 bytes\n\nframes 4\nend trap orange overflow line 8\n",
-            status: Status::Trapped,
-            journal: Some(BROKEN),
-            ..PLAIN
-        },
-        Case {
-            line: "run --journal j a.c",
-            head: PAIR,
-            body: "int f(void) { return 1; } int main(void) { return 7; }",
-            out: b"level purple 0 bytes\n\nlevel orange 0 bytes\n\nframes 0\nend exit 7\n",
-            journal: Some(b""),
-            ..PLAIN
-        },
-        Case {
-            line: "run --journal j a.c",
-            out: b"level purple 1 bytes\nH\nframes 0\nend exit 0\n",
-            journal: Some(b""),
-            ..PLAIN
-        },
-        // The journal is whole before the report begins.
-        Case {
-            line: "run --journal j a.c",
-            head: PAIR,
-            body: TWELVE,
-            out_fails: (1, 5),
-            out: b"level",
-            err: "closure: cannot write standard output\n",
-            status: Status::WriteFault,
-            journal: Some(TWO_CALLS),
-            ..PLAIN
-        },
-    ] {
-        check(&rt, rt.alloc(), &case)?;
+        out: b"level purple 1 bytes\nA\nlevel orange 0 bytes\n\nframes 4\nend trap orange overflow line 8\n",
+        status: Status::Trapped,
+        journal: Some(BROKEN),
+        ..PLAIN
+    },
+    Case {
+        line: "run --journal j a.c",
+        head: PAIR,
+        body: "int f(void) { return 1; } int main(void) { return 7; }",
+        out: b"level purple 0 bytes\n\nlevel orange 0 bytes\n\nframes 0\nend exit 7\n",
+        journal: Some(b""),
+        ..PLAIN
+    },
+    Case {
+        line: "run --journal j a.c",
+        out: b"level purple 1 bytes\nH\nframes 0\nend exit 0\n",
+        journal: Some(b""),
+        ..PLAIN
+    },
+    // The journal is whole before the report begins.
+    Case {
+        line: "run --journal j a.c",
+        head: PAIR,
+        body: TWELVE,
+        out_fails: (1, 5),
+        out: b"level",
+        err: "closure: cannot write standard output\n",
+        status: Status::WriteFault,
+        journal: Some(TWO_CALLS),
+        ..PLAIN
+    },
+];
+
+#[test]
+fn journals_are_kept(rt: HostRuntime) -> Result<(), Fail> {
+    for case in &KEPT {
+        check(&rt, rt.alloc(), case)?;
     }
     Ok(())
 }

@@ -7,46 +7,49 @@ use std::test::Fail;
 const USAGE: &str =
     "closure: usage: check SRC | divide SRC DIR | run [options] SRC [LEVEL=FILE ...] | drill N\n";
 
+/// Words that have no reading.
+const OTHER_WORDS: [&str; 36] = [
+    "",
+    "run",
+    "run ",
+    "run -",
+    "run --",
+    "run -- a.c",
+    "run a.c b.c",
+    "run a.c purple=b",
+    "Run a.c",
+    "check a.c",
+    "divide a.c d",
+    "drill 3",
+    "run a.c --journal j",
+    "run a.c --journal=j",
+    "run --journal",
+    "run --journal j",
+    "run --journal=j",
+    "run --journal= a.c",
+    "run --journal  a.c",
+    "run --journal=-j a.c",
+    "run --journal -j a.c",
+    "run --journal j -a.c",
+    "run --journal a --journal b a.c",
+    "run --journal=a --journal=b a.c",
+    "run --journal a --journal=b a.c",
+    "run --journal=a --journal b a.c",
+    "run --journal --journal=b a.c",
+    "run --Journal=j a.c",
+    "run --journa=j a.c",
+    "run --journals=j a.c",
+    "run -journal=j a.c",
+    "run =j a.c",
+    "run -=j a.c",
+    "run --policy p a.c",
+    "run --steps 5 a.c",
+    "run --workers=2 a.c",
+];
+
 #[test]
 fn other_words_are_usage(rt: HostRuntime) -> Result<(), Fail> {
-    for line in [
-        "",
-        "run",
-        "run ",
-        "run -",
-        "run --",
-        "run -- a.c",
-        "run a.c b.c",
-        "run a.c purple=b",
-        "Run a.c",
-        "check a.c",
-        "divide a.c d",
-        "drill 3",
-        "run a.c --journal j",
-        "run a.c --journal=j",
-        "run --journal",
-        "run --journal j",
-        "run --journal=j",
-        "run --journal= a.c",
-        "run --journal  a.c",
-        "run --journal=-j a.c",
-        "run --journal -j a.c",
-        "run --journal j -a.c",
-        "run --journal a --journal b a.c",
-        "run --journal=a --journal=b a.c",
-        "run --journal a --journal=b a.c",
-        "run --journal=a --journal b a.c",
-        "run --journal --journal=b a.c",
-        "run --Journal=j a.c",
-        "run --journa=j a.c",
-        "run --journals=j a.c",
-        "run -journal=j a.c",
-        "run =j a.c",
-        "run -=j a.c",
-        "run --policy p a.c",
-        "run --steps 5 a.c",
-        "run --workers=2 a.c",
-    ] {
+    for line in OTHER_WORDS {
         let case = Case {
             line,
             err: USAGE,
@@ -59,14 +62,18 @@ fn other_words_are_usage(rt: HostRuntime) -> Result<(), Fail> {
     Ok(())
 }
 
+/// Words, and what is told of them.
+const WITH_EQUALS_SIGN: [(&str, &str); 3] = [
+    ("run a=b", "closure: cannot read a=b\n"),
+    ("run --journal=a=b c", "closure: cannot read c\n"),
+    ("run --journal a=b c=d", "closure: cannot read c=d\n"),
+];
+
 /// The option may have an `=` in its value.
 #[test]
 fn a_value_may_have_an_equals_sign(rt: HostRuntime) -> Result<(), Fail> {
-    for (line, err) in [
-        ("run a=b", "closure: cannot read a=b\n"),
-        ("run --journal=a=b c", "closure: cannot read c\n"),
-        ("run --journal a=b c=d", "closure: cannot read c=d\n"),
-    ] {
+    for row in &WITH_EQUALS_SIGN {
+        let (line, err) = *row;
         let case = Case {
             line,
             err,

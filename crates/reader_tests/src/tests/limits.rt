@@ -5,6 +5,38 @@ use cl_front::stop::FrontStop;
 use std::alloc::{AllocError, Global};
 use std::test::Fail;
 
+// A source: its beginning, a unit so many times, its middle, an end of the unit as many times, and its end; and the
+// line of what passes a limit.
+const LIMITS: [(&str, &str, &str, &str, &str, u32, Option<u32>); 7] = [
+    // The bracket of number n stands on line n + 1.
+    ("int a =", "\n(", "1", ")", ";", 64, None),
+    ("int a =", "\n(", "1", ")", ";", 65, Some(66)),
+    // The terminal of number n stands on line n, and none of them but the last separates.
+    ("int\na\n=", "\n-", "\n1\n;", "", "", 508, None),
+    ("int\na\n=", "\n-", "\n1\n;", "", "", 509, Some(513)),
+    // The `else` of number n stands on line n + 1.
+    (
+        "int f(void) {",
+        "\nif (a) ; else",
+        " ; }",
+        "",
+        "",
+        256,
+        None,
+    ),
+    (
+        "int f(void) {",
+        "\nif (a) ; else",
+        " ; }",
+        "",
+        "",
+        257,
+        Some(258),
+    ),
+    // A limit goes before an item without a reading.
+    ("int a", "[", "", "", "", 65, Some(1)),
+];
+
 fn add(source: &mut String, times: u32, unit: &str) -> Result<(), AllocError> {
     for _ in 0..times {
         source.push_str(unit)?;
@@ -12,70 +44,35 @@ fn add(source: &mut String, times: u32, unit: &str) -> Result<(), AllocError> {
     Ok(())
 }
 
-// The bracket of number n stands on line n + 1.
-fn brackets(alloc: Global, count: u32) -> Result<String, AllocError> {
-    let mut source = String::from_str(alloc, "int a =")?;
-    add(&mut source, count, "\n(")?;
-    source.push_str("1")?;
-    add(&mut source, count, ")")?;
-    source.push_str(";")?;
-    Ok(source)
+// The line at which E23 refuses the source; none where it is read, and 0 where something else stops it.
+fn passed(alloc: Global, source: &str) -> Option<u32> {
+    match read(alloc, source) {
+        Ok(_) => None,
+        Err(FrontStop::Refused { rule: 23, line }) => Some(line),
+        Err(_) => Some(0),
+    }
 }
 
-// The piece of number n stands on line n, and none of them but the last separates.
-fn run(alloc: Global, signs: u32) -> Result<String, AllocError> {
-    let mut source = String::from_str(alloc, "int\na\n=")?;
-    add(&mut source, signs, "\n-")?;
-    source.push_str("\n1\n;")?;
-    Ok(source)
-}
-
-// The `else` of number n stands on line n + 1.
-fn elses(alloc: Global, count: u32) -> Result<String, AllocError> {
-    let mut source = String::from_str(alloc, "int f(void) {")?;
-    add(&mut source, count, "\nif (a) ; else")?;
-    source.push_str(" ; }")?;
-    Ok(source)
-}
-
-fn stop(alloc: Global, source: &String) -> Option<FrontStop> {
-    read(alloc, source.as_str()).err()
-}
-
-fn passed(line: u32) -> Option<FrontStop> {
-    Some(FrontStop::Refused { rule: 23, line })
+fn differs(
+    alloc: Global,
+    rows: &[(&str, &str, &str, &str, &str, u32, Option<u32>)],
+) -> Result<Option<u32>, AllocError> {
+    for (begin, unit, middle, unit_end, end, times, line) in rows {
+        let mut source = String::from_str(alloc, begin)?;
+        add(&mut source, *times, unit)?;
+        source.push_str(middle)?;
+        add(&mut source, *times, unit_end)?;
+        source.push_str(end)?;
+        if passed(alloc, source.as_str()) != *line {
+            return Ok(Some(*times));
+        }
+    }
+    Ok(None)
 }
 
 #[test]
-fn open_brackets(rt: HostRuntime) -> Result<(), Fail> {
+fn sources_past_a_limit_are_refused(rt: HostRuntime) -> Result<(), Fail> {
     let alloc = rt.alloc();
-    assert_eq!(rt; stop(alloc, &brackets(alloc, 64)?), None);
-    assert_eq!(rt; stop(alloc, &brackets(alloc, 65)?), passed(66));
-    Ok(())
-}
-
-#[test]
-fn tokens_in_a_row(rt: HostRuntime) -> Result<(), Fail> {
-    let alloc = rt.alloc();
-    assert_eq!(rt; stop(alloc, &run(alloc, 508)?), None);
-    assert_eq!(rt; stop(alloc, &run(alloc, 509)?), passed(513));
-    Ok(())
-}
-
-#[test]
-fn elses_of_one_item(rt: HostRuntime) -> Result<(), Fail> {
-    let alloc = rt.alloc();
-    assert_eq!(rt; stop(alloc, &elses(alloc, 256)?), None);
-    assert_eq!(rt; stop(alloc, &elses(alloc, 257)?), passed(258));
-    Ok(())
-}
-
-// A limit goes before an item without a reading.
-#[test]
-fn limit_first(rt: HostRuntime) -> Result<(), Fail> {
-    let alloc = rt.alloc();
-    let mut source = String::from_str(alloc, "int a")?;
-    add(&mut source, 65, "[")?;
-    assert_eq!(rt; stop(alloc, &source), passed(1));
+    assert_eq!(rt; differs(alloc, &LIMITS)?, None);
     Ok(())
 }

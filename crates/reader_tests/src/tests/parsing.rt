@@ -5,7 +5,7 @@ use cl_parse::first::first_item;
 use cl_parse::limits::limit_passed;
 use cl_parse::reader::parse;
 use cl_parse::stop::ParseStop;
-use cl_pieces::pieces::pieces;
+use cl_terminals::terminals::terminals;
 use cl_tree::token::{Lexeme, Mark, Token};
 use sqlite_items::Items;
 use std::alloc::Global;
@@ -50,89 +50,129 @@ fn repeated(
     Ok(tokens)
 }
 
-fn passed(
-    alloc: Global,
-    begin: &[&str],
-    times: u32,
-    words: &[&str],
-) -> Result<Option<u32>, NoMemory> {
-    let tokens = repeated(alloc, begin, times, words)?;
-    let pieces = pieces(alloc, tokens.as_slice())?;
-    limit_passed(alloc, pieces.as_slice())
-}
-
-#[test]
-fn limits(rt: HostRuntime) {
-    let alloc = rt.alloc();
-    assert_eq!(rt; passed(alloc, &[], 64, &["("]), Ok(None));
-    assert_eq!(rt; passed(alloc, &[], 65, &["("]), Ok(Some(65)));
-    assert_eq!(rt; passed(alloc, &[], 512, &["x"]), Ok(None));
-    assert_eq!(rt; passed(alloc, &[], 513, &["x"]), Ok(Some(513)));
+// Words, others so many times, and the line of the first terminal that passes a limit.
+const LIMITS: [(&[&str], u32, &[&str], Option<u32>); 7] = [
+    (&[], 64, &["("], None),
+    (&[], 65, &["("], Some(65)),
+    (&[], 512, &["x"], None),
+    (&[], 513, &["x"], Some(513)),
     // In one item, and over several.
-    assert_eq!(rt; passed(alloc, &["{"], 256, &["else", ";"]), Ok(None));
-    assert_eq!(rt; passed(alloc, &["{"], 257, &["else", ";"]), Ok(Some(514)));
-    assert_eq!(rt; passed(alloc, &[], 300, &["else", ";"]), Ok(None));
+    (&["{"], 256, &["else", ";"], None),
+    (&["{"], 257, &["else", ";"], Some(514)),
+    (&[], 300, &["else", ";"], None),
+];
+
+fn over(alloc: Global, tokens: &[Token]) -> Result<Option<u32>, NoMemory> {
+    let terminals = terminals(alloc, tokens)?;
+    limit_passed(alloc, terminals.as_slice())
 }
 
-fn first(alloc: Global, words: &[&str]) -> Result<(usize, bool), NoMemory> {
-    let tokens = repeated(alloc, words, 0, &[])?;
-    let pieces = pieces(alloc, tokens.as_slice())?;
-    first_item(alloc, false, pieces.as_slice())
+// How often the first row that passes another limit repeats its words.
+fn limit_differs(
+    alloc: Global,
+    rows: &[(&[&str], u32, &[&str], Option<u32>)],
+) -> Result<Option<u32>, NoMemory> {
+    for (begin, times, words, line) in rows {
+        let tokens = repeated(alloc, begin, *times, words)?;
+        if over(alloc, tokens.as_slice())? != *line {
+            return Ok(Some(*times));
+        }
+    }
+    Ok(None)
 }
 
 #[test]
-fn first_items(rt: HostRuntime) {
+fn limits_are_kept_by_items(rt: HostRuntime) -> Result<(), Fail> {
     let alloc = rt.alloc();
-    assert_eq!(rt; first(alloc, &["x", ";", "y"]), Ok((2, false)));
-    assert_eq!(rt;
-        first(alloc, &["f", "(", ")", "{", ";", "}", ";"]),
-        Ok((6, false))
-    );
-    assert_eq!(rt;
-        first(alloc, &["s", "{", ";", "}", ";", "y"]),
-        Ok((5, false))
-    );
-    assert_eq!(rt; first(alloc, &[")", "{"]), Ok((1, true)));
-    assert_eq!(rt; first(alloc, &["x", "y"]), Ok((2, false)));
+    assert_eq!(rt; limit_differs(alloc, &LIMITS)?, None);
+    Ok(())
 }
 
-fn item_count(alloc: Global, words: &[&str]) -> Result<usize, ParseStop> {
-    let tokens = repeated(alloc, words, 0, &[])?;
-    let program = parse(alloc, tokens.as_slice())?;
+// Words, how many of them the first item has, and whether its last is a `)`.
+const ITEMS: [(&[&str], usize, bool); 5] = [
+    (&["x", ";", "y"], 2, false),
+    (&["f", "(", ")", "{", ";", "}", ";"], 6, false),
+    (&["s", "{", ";", "}", ";", "y"], 5, false),
+    (&[")", "{"], 1, true),
+    (&["x", "y"], 2, false),
+];
+
+fn first(alloc: Global, tokens: &[Token]) -> Result<(usize, bool), NoMemory> {
+    let terminals = terminals(alloc, tokens)?;
+    first_item(alloc, false, terminals.as_slice())
+}
+
+// The size that the row says of the first item that is another.
+fn item_differs(alloc: Global, rows: &[(&[&str], usize, bool)]) -> Result<Option<usize>, NoMemory> {
+    for (words, size, closes) in rows {
+        let tokens = repeated(alloc, words, 0, &[])?;
+        if first(alloc, tokens.as_slice())? != (*size, *closes) {
+            return Ok(Some(*size));
+        }
+    }
+    Ok(None)
+}
+
+#[test]
+fn items_end_at_semicolons_and_bodies(rt: HostRuntime) -> Result<(), Fail> {
+    let alloc = rt.alloc();
+    assert_eq!(rt; item_differs(alloc, &ITEMS)?, None);
+    Ok(())
+}
+
+// Words, others so many times, and how many items they are, or the rule that they break and its line.
+const PARSED: [(&[&str], u32, &[&str], Result<usize, ParseStop>); 5] = [
+    (&[], 0, &[], Ok(0)),
+    (
+        &["int", "x", ";", "int", "f", "(", "void", ")", "{", "}"],
+        0,
+        &[],
+        Ok(2),
+    ),
+    (
+        &["x", ";"],
+        0,
+        &[],
+        Err(ParseStop::Rule { rule: 6, line: 1 }),
+    ),
+    // The first of two items without a reading.
+    (
+        &["unsigned", "int", "x", ";", ")", "int", "y", ";", "z", ";"],
+        0,
+        &[],
+        Err(ParseStop::Rule { rule: 6, line: 5 }),
+    ),
+    // A limit goes before an item that has no reading.
+    (
+        &["x", ";"],
+        65,
+        &["("],
+        Err(ParseStop::Rule { rule: 23, line: 67 }),
+    ),
+];
+
+fn item_count(alloc: Global, tokens: &[Token]) -> Result<usize, ParseStop> {
+    let program = parse(alloc, tokens)?;
     Ok(program.items.len())
 }
 
-#[test]
-fn parses(rt: HostRuntime) {
-    let alloc = rt.alloc();
-    assert_eq!(rt; item_count(alloc, &[]), Ok(0));
-    assert_eq!(rt;
-        item_count(
-            alloc,
-            &["int", "x", ";", "int", "f", "(", "void", ")", "{", "}"]
-        ),
-        Ok(2)
-    );
-    // The first of two items without a reading.
-    let unread = ["unsigned", "int", "x", ";", ")", "int", "y", ";", "z", ";"];
-    assert_eq!(rt;
-        item_count(alloc, &unread),
-        Err(ParseStop::Rule { rule: 6, line: 5 })
-    );
-    assert_eq!(rt;
-        item_count(alloc, &["x", ";"]),
-        Err(ParseStop::Rule { rule: 6, line: 1 })
-    );
+// What the first row says that is parsed otherwise.
+fn parse_differs(
+    alloc: Global,
+    rows: &[(&[&str], u32, &[&str], Result<usize, ParseStop>)],
+) -> Result<Option<Result<usize, ParseStop>>, NoMemory> {
+    for (begin, times, words, wanted) in rows {
+        let tokens = repeated(alloc, begin, *times, words)?;
+        if item_count(alloc, tokens.as_slice()) != *wanted {
+            return Ok(Some(*wanted));
+        }
+    }
+    Ok(None)
 }
 
 #[test]
-fn refuses(rt: HostRuntime) -> Result<(), Fail> {
+fn the_first_failure_is_told(rt: HostRuntime) -> Result<(), Fail> {
     let alloc = rt.alloc();
-    // A limit goes before an item that has no reading.
-    let deep = repeated(alloc, &["x", ";"], 65, &["("])?;
-    match parse(alloc, deep.as_slice()) {
-        Ok(_) => assert!(rt; false),
-        Err(stop) => assert_eq!(rt; stop, ParseStop::Rule { rule: 23, line: 67 }),
-    }
+    assert_eq!(rt; parse_differs(alloc, &PARSED)?, None);
     Ok(())
 }

@@ -1,5 +1,6 @@
-// Small trees, spelled and judged. Expected pieces are written by hand, each with its lines.
+// A source spelled with its lines, and small trees that no source brings, judged.
 
+use super::read;
 use cl_base::name::{Name, NoMemory};
 use cl_plain::examples;
 use cl_plain::expressions::{spelled_expr, well_formed_expr};
@@ -9,7 +10,7 @@ use cl_plain::wanted::{Want, Wanted};
 use cl_tree::grammar::{Keyword, Sign};
 use cl_tree::kinds::{BinOp, IntKind};
 use cl_tree::token::Mark;
-use cl_tree::tree::{Act, CType, Declaration, Declarator, Expr, Init, Item, Node, Program, Stmt};
+use cl_tree::tree::{Act, CType, Expr, Item, Node, Program, Stmt};
 use sqlite_items::{Boxed, Items};
 use std::alloc::{AllocError, Global};
 use std::test::Fail;
@@ -70,138 +71,6 @@ fn one<T: Drop>(alloc: Global, item: Boxed<T>) -> Result<Items<T>, NoMemory> {
     Ok(items)
 }
 
-fn two<T: Drop>(alloc: Global, first: Boxed<T>, other: Boxed<T>) -> Result<Items<T>, NoMemory> {
-    let mut items = one(alloc, first)?;
-    items.push(other.into_inner())?;
-    Ok(items)
-}
-
-fn declarator(
-    alloc: Global,
-    name: &str,
-    ctype: Boxed<CType>,
-    line: u32,
-    second: u32,
-) -> Result<Boxed<Declarator>, NoMemory> {
-    let name = Name::of(alloc, name)?;
-    let d = Boxed::new(
-        alloc,
-        Declarator {
-            name,
-            ctype: ctype.into_inner(),
-            init: None,
-            line,
-            second,
-        },
-    )?;
-    Ok(d)
-}
-
-fn int(alloc: Global) -> Result<Boxed<CType>, NoMemory> {
-    let int = Boxed::new(alloc, CType::Integer(IntKind::I32))?;
-    Ok(int)
-}
-
-// *a[3]: the star on line 2, the name on line 3
-fn pointers(alloc: Global) -> Result<Boxed<Declarator>, NoMemory> {
-    let int = int(alloc)?;
-    let pointer = Boxed::new(alloc, CType::Pointer(int))?;
-    let array = Boxed::new(alloc, CType::Array(pointer, 3))?;
-    declarator(alloc, "a", array, 3, 2)
-}
-
-// b = 1: the name on line 4, the number on line 5
-fn started(alloc: Global) -> Result<Boxed<Declarator>, NoMemory> {
-    let name = Name::of(alloc, "b")?;
-    let value = number(alloc, 5, 1)?;
-    let d = Boxed::new(
-        alloc,
-        Declarator {
-            name,
-            ctype: CType::Integer(IntKind::I32),
-            init: Some(Init::One(value.into_inner())),
-            line: 4,
-            second: 1,
-        },
-    )?;
-    Ok(d)
-}
-
-// int *a[3], b = 1;
-fn variables(alloc: Global) -> Result<Boxed<Item>, NoMemory> {
-    let a = pointers(alloc)?;
-    let b = started(alloc)?;
-    let names = two(alloc, a, b)?;
-    let is_static = false;
-    let item = Boxed::new(alloc, Item::Variables(Declaration { is_static, names }))?;
-    Ok(item)
-}
-
-fn member(alloc: Global) -> Result<Items<Declaration>, NoMemory> {
-    let int = int(alloc)?;
-    let x = declarator(alloc, "x", int, 6, 1)?;
-    let names = one(alloc, x)?;
-    let is_static = false;
-    let member = Boxed::new(alloc, Declaration { is_static, names })?;
-    one(alloc, member)
-}
-
-// struct s { int x; };
-fn structure(alloc: Global) -> Result<Boxed<Item>, NoMemory> {
-    let members = member(alloc)?;
-    let name = Name::of(alloc, "s")?;
-    let line = 1;
-    let item = Boxed::new(
-        alloc,
-        Item::Struct {
-            name,
-            members,
-            line,
-        },
-    )?;
-    Ok(item)
-}
-
-fn start(alloc: Global) -> Result<Boxed<Stmt>, NoMemory> {
-    let i = variable(alloc, "i")?;
-    let zero = number(alloc, 1, 0)?;
-    let op = None;
-    let place = i.into_inner();
-    let value = zero.into_inner();
-    stmt(alloc, Act::Set { op, place, value })
-}
-
-fn step(alloc: Global) -> Result<Boxed<Stmt>, NoMemory> {
-    let i = variable(alloc, "i")?;
-    let up = true;
-    let prefix = false;
-    let place = i.into_inner();
-    stmt(alloc, Act::Bump { up, prefix, place })
-}
-
-fn below_three(alloc: Global) -> Result<Boxed<Expr>, NoMemory> {
-    let i = variable(alloc, "i")?;
-    let three = number(alloc, 1, 3)?;
-    binary(alloc, BinOp::Less, i, three)
-}
-
-// for (i = 0; i < 3; i++) ;
-fn counting(alloc: Global) -> Result<Boxed<Stmt>, NoMemory> {
-    let first = start(alloc)?;
-    let next = step(alloc)?;
-    let body = stmt(alloc, Act::Empty)?;
-    let test = below_three(alloc)?;
-    stmt(
-        alloc,
-        Act::For {
-            first: Some(first),
-            test: Some(test.into_inner()),
-            next: Some(next),
-            body,
-        },
-    )
-}
-
 fn choice(
     alloc: Global,
     name: &str,
@@ -248,22 +117,6 @@ fn function(alloc: Global, name: &str, body: Items<Stmt>) -> Result<Boxed<Item>,
     Ok(item)
 }
 
-fn looping(alloc: Global) -> Result<Boxed<Item>, NoMemory> {
-    let first = counting(alloc)?;
-    let other = chain(alloc)?;
-    let body = two(alloc, first, other)?;
-    function(alloc, "f", body)
-}
-
-fn program(alloc: Global) -> Result<Program, NoMemory> {
-    let variables = variables(alloc)?;
-    let structure = structure(alloc)?;
-    let function = looping(alloc)?;
-    let mut items = two(alloc, variables, structure)?;
-    items.push(function.into_inner())?;
-    Ok(Program { items })
-}
-
 fn named(alloc: Global, name: &str) -> Result<Program, NoMemory> {
     let item = function(alloc, name, Items::new(alloc))?;
     let items = one(alloc, item)?;
@@ -308,47 +161,75 @@ fn show_what(alloc: Global, text: &mut String, what: &Want) -> Result<(), AllocE
         Want::Is(Sign::Mark(mark)) => text.push_str(mark_text(*mark)),
         Want::Is(Sign::Integer { value, .. }) => text.push_str(&format!(in alloc; "{value}")?),
         Want::Size(size) => text.push_str(&format!(in alloc; "{size}")?),
-        _ => text.push_str("another piece"),
+        _ => text.push_str("another terminal"),
     }
 }
 
-// each piece, with `@` and each of its lines, one that is kept twice in a row once, and a space behind it
-fn shown(alloc: Global, pieces: &[Wanted]) -> Result<String, AllocError> {
-    let mut text = String::new(alloc);
-    for piece in pieces {
-        show_what(alloc, &mut text, &piece.what)?;
-        let mut shown = 0;
-        for line in piece.lines.as_slice() {
-            if *line != shown {
-                text.push_str(&format!(in alloc; "@{line}")?)?;
-            }
-            shown = *line;
+// `@` and each line, one that is kept twice in a row once
+fn show_lines(alloc: Global, text: &mut String, lines: &[u32]) -> Result<(), AllocError> {
+    let mut shown = 0;
+    for line in lines {
+        if *line != shown {
+            text.push_str(&format!(in alloc; "@{line}")?)?;
         }
+        shown = *line;
+    }
+    Ok(())
+}
+
+// each terminal, with its lines, and a space behind it
+fn shown(alloc: Global, terminals: &[Wanted]) -> Result<String, AllocError> {
+    let mut text = String::new(alloc);
+    for terminal in terminals {
+        show_what(alloc, &mut text, &terminal.what)?;
+        show_lines(alloc, &mut text, terminal.lines.as_slice())?;
         text.push_str(" ")?;
     }
     Ok(text)
 }
 
 fn expr_text(alloc: Global, e: &Expr) -> Result<String, NoMemory> {
-    let pieces = spelled_expr(alloc, e)?;
-    Ok(shown(alloc, pieces.as_slice())?)
+    let terminals = spelled_expr(alloc, e)?;
+    Ok(shown(alloc, terminals.as_slice())?)
+}
+
+// Sources with their terminals, and the lines that the tree keeps of each.
+const SPELLED: [(&str, &str); 3] = [
+    (
+        "int\n*\na[3],\nb =\n1;\nstruct s {\nint x; };",
+        "int@1 *@2 a@3 [ 3 ] , b@4 = 1@5 ; struct@6 s { int x@7 ; } ; ",
+    ),
+    (
+        "int f(void) { for (i = 0; i < 3; i++) ; }",
+        "int@1 f@1 ( void ) { for@1 ( i@1 =@1 0@1 ; i@1 <@1 3@1 ; i@1 ++@1 ) ;@1 } ",
+    ),
+    (
+        "int\nf(void) { if (a) ; else if (b) ; else ; }",
+        "int@1 f@2 ( void ) { if@2 ( a@2 ) ;@2 else if@2 ( b@2 ) ;@2 else ;@2 } ",
+    ),
+];
+
+// The first source that is spelled otherwise.
+fn differs<'a>(alloc: Global, rows: &'a [(&str, &str)]) -> Result<Option<&'a str>, Fail> {
+    for (source, wanted) in rows {
+        let program = read(alloc, source)?;
+        let terminals = spelled(alloc, &program)?;
+        if shown(alloc, terminals.as_slice())?.as_str() != *wanted {
+            return Ok(Some(source));
+        }
+    }
+    Ok(None)
 }
 
 #[test]
-fn spells_a_program(rt: HostRuntime) -> Result<(), Fail> {
+fn programs_are_spelled_with_their_lines(rt: HostRuntime) -> Result<(), Fail> {
     let alloc = rt.alloc();
-    let program = program(alloc)?;
-    let pieces = spelled(alloc, &program)?;
-    let text = shown(alloc, pieces.as_slice())?;
-    let wanted =
-        "int@1 *@2 a@3 [ 3 ] , b@4 = 1@5 ; struct@1 s { int x@6 ; } ; int@1 f@1 ( void ) { for@1 ( i@1 =@1 0@1 ; i@1 <@1 3@1 ; i@1 ++@1 ) ;@1 if@1 ( a@1 ) ;@1 else if@1 ( b@1 ) ;@1 else ;@1 } ";
-    assert_eq!(rt; text.as_str(), wanted);
-    assert!(rt; well_formed(alloc, &program)?);
+    assert_eq!(rt; differs(alloc, &SPELLED)?, None);
     Ok(())
 }
 
 #[test]
-fn judges_operands(rt: HostRuntime) -> Result<(), Fail> {
+fn operands_bind_to_the_left(rt: HostRuntime) -> Result<(), Fail> {
     let alloc = rt.alloc();
     let left = left_first(alloc)?;
     assert!(rt; well_formed_expr(left.get()));
@@ -360,7 +241,7 @@ fn judges_operands(rt: HostRuntime) -> Result<(), Fail> {
 }
 
 #[test]
-fn judges_statements(rt: HostRuntime) -> Result<(), Fail> {
+fn an_else_belongs_to_the_nearest_if(rt: HostRuntime) -> Result<(), Fail> {
     let alloc = rt.alloc();
     let chain = chain(alloc)?;
     assert!(rt; well_formed_stmt(chain.get()));
@@ -369,19 +250,28 @@ fn judges_statements(rt: HostRuntime) -> Result<(), Fail> {
     Ok(())
 }
 
-#[test]
-fn judges_names(rt: HostRuntime) -> Result<(), Fail> {
-    let alloc = rt.alloc();
-    for (name, wanted) in [("f", true), ("while", false), ("int", false), ("2f", false)] {
+const NAMES: [(&str, bool); 4] = [("f", true), ("while", false), ("int", false), ("2f", false)];
+
+// The first name with which a function is judged otherwise.
+fn misjudged<'a>(alloc: Global, rows: &'a [(&str, bool)]) -> Result<Option<&'a str>, NoMemory> {
+    for (name, wanted) in rows {
         let program = named(alloc, name)?;
-        let well = well_formed(alloc, &program)?;
-        assert_eq!(rt; well, wanted);
+        if well_formed(alloc, &program)? != *wanted {
+            return Ok(Some(name));
+        }
     }
+    Ok(None)
+}
+
+#[test]
+fn reserved_words_are_no_names(rt: HostRuntime) -> Result<(), Fail> {
+    let alloc = rt.alloc();
+    assert_eq!(rt; misjudged(alloc, &NAMES)?, None);
     Ok(())
 }
 
 #[test]
-fn states_the_examples(_rt: HostRuntime) {
+fn the_examples_hold(_rt: HostRuntime) {
     examples::conversions();
     examples::divisions();
     examples::shifts();

@@ -4,10 +4,10 @@ use super::read;
 use cl_base::limits::SOURCE_BYTES;
 use cl_lex::lex::lex;
 use cl_parse::reader::parse;
-use cl_pieces::pieces::pieces;
 use cl_plain::items::{spelled, well_formed};
 use cl_plain::wanted::{Want, Wanted};
-use cl_tree::grammar::{Piece, Sign};
+use cl_terminals::terminals::terminals;
+use cl_tree::grammar::{Sign, Terminal};
 use cl_tree::token::Token;
 use std::alloc::{AllocError, Global};
 use std::test::Fail;
@@ -30,20 +30,20 @@ fn stands(lines: &[u32], line: u32) -> bool {
     lines.iter().all(|kept| *kept == line)
 }
 
-// Where the pieces first differ, or which of the two is longer.
+// Where the terminals first differ, or which of the two is longer.
 fn difference(
     alloc: Global,
     wanted: &[Wanted],
-    found: &[Piece],
+    found: &[Terminal],
 ) -> Result<Option<usize>, AllocError> {
     for (i, want) in wanted.iter().enumerate() {
-        let Some(piece) = found.get(i) else {
+        let Some(terminal) = found.get(i) else {
             return Ok(Some(i));
         };
-        if !is_wanted(alloc, &want.what, &piece.what)? {
+        if !is_wanted(alloc, &want.what, &terminal.what)? {
             return Ok(Some(i));
         }
-        if !stands(want.lines.as_slice(), piece.line) {
+        if !stands(want.lines.as_slice(), terminal.line) {
             return Ok(Some(i));
         }
     }
@@ -56,7 +56,7 @@ fn difference(
 fn spelled_again(alloc: Global, tokens: &[Token]) -> Result<Option<usize>, Fail> {
     let program = parse(alloc, tokens)?;
     let wanted = spelled(alloc, &program)?;
-    let found = pieces(alloc, tokens)?;
+    let found = terminals(alloc, tokens)?;
     Ok(difference(alloc, wanted.as_slice(), found.as_slice())?)
 }
 
@@ -109,12 +109,19 @@ const SOURCES: [&str; 31] = [
     "int a = (int)-b + (struct s *)\n+c * ~d - !*e->f\n.g[h\n][1] & &i / (void *) j;",
 ];
 
-#[test]
-fn spells_what_is_read(rt: HostRuntime) -> Result<(), Fail> {
-    let alloc = rt.alloc();
-    for source in SOURCES {
-        assert_eq!(rt; changed(alloc, source)?, None, "at {source:?}");
-        assert!(rt; is_well_formed(alloc, source)?, "at {source:?}");
+// The first source whose reading is spelled otherwise, or is not well-formed.
+fn differs<'a>(alloc: Global, sources: &'a [&str]) -> Result<Option<&'a str>, Fail> {
+    for source in sources {
+        if changed(alloc, source)?.is_some() || !is_well_formed(alloc, source)? {
+            return Ok(Some(source));
+        }
     }
+    Ok(None)
+}
+
+#[test]
+fn what_is_read_is_spelled_again(rt: HostRuntime) -> Result<(), Fail> {
+    let alloc = rt.alloc();
+    assert_eq!(rt; differs(alloc, &SOURCES)?, None);
     Ok(())
 }

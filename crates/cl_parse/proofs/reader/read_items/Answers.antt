@@ -14,4 +14,4 @@ items-smaller c =
 pub returns : goal.returns
 returns c =
     let none : length c.items.rest.now ≡ 0 = grind (arith, common_steps) in
-    goes_done (cut c.args.pieces.now) c.items.done c.items.after c.items.rest.now (none_left c.items.rest.now none) c.items.invariant
+    goes_done (cut c.args.terminals.now) c.items.done c.items.after c.items.rest.now (none_left c.items.rest.now none) c.items.invariant

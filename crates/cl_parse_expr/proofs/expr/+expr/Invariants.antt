@@ -33,13 +33,13 @@ abbrev pub decreases-grow : goal.decreases-grow
 decreases-grow l = 6 * l.room + 1
 
 abbrev pub invariant-more_at-commas : goal.invariant-more_at-commas
-invariant-more_at-commas l = more_at (expr_at l.room) l.turns l.done l.pieces ≡ more_at (expr_at l.room) (length l.start) l.initial.done l.start
+invariant-more_at-commas l = more_at (expr_at l.room) l.turns l.done l.terminals ≡ more_at (expr_at l.room) (length l.start) l.initial.done l.start
 
 abbrev pub decreases-more_at-commas : goal.decreases-more_at-commas
 decreases-more_at-commas l = l.turns
 
 abbrev pub invariant-climb-links : goal.invariant-climb-links
-invariant-climb-links l = loop_of (expr_at l.room) (suc l.turns) l.level l.left l.pieces ≡ loop_of (expr_at l.room) (suc (length l.start)) l.level l.initial.left l.start
+invariant-climb-links l = loop_of (expr_at l.room) (suc l.turns) l.level l.left l.terminals ≡ loop_of (expr_at l.room) (suc (length l.start)) l.level l.initial.left l.start
 
 abbrev pub decreases-climb-links : goal.decreases-climb-links
 decreases-climb-links l = l.turns

@@ -13,7 +13,7 @@ abbrev pub decreases-more_inits : goal.decreases-more_inits
 decreases-more_inits l = 4 * l.deep + 1
 
 abbrev pub invariant-more_inits-parts : goal.invariant-more_inits-parts
-invariant-more_inits-parts l = more_inits (init_at l.deep (expr_at l.room)) l.turns l.done l.pieces ≡ more_inits (init_at l.deep (expr_at l.room)) (length l.start) l.initial.done l.start
+invariant-more_inits-parts l = more_inits (init_at l.deep (expr_at l.room)) l.turns l.done l.terminals ≡ more_inits (init_at l.deep (expr_at l.room)) (length l.start) l.initial.done l.start
 
 abbrev pub decreases-more_inits-parts : goal.decreases-more_inits-parts
 decreases-more_inits-parts l = l.turns

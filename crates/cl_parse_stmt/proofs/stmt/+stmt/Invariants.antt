@@ -30,7 +30,7 @@ decreases-for_at l = 6 * l.deep + 1
 
 abbrev pub invariant-block_at-statements : goal.invariant-block_at-statements
 invariant-block_at-statements l =
-    block_at (listed_of (stmt_at l.deep (expr_at l.room) (init_at l.room (expr_at l.room))) (init_at l.room (expr_at l.room))) (suc l.turns) l.done l.pieces
+    block_at (listed_of (stmt_at l.deep (expr_at l.room) (init_at l.room (expr_at l.room))) (init_at l.room (expr_at l.room))) (suc l.turns) l.done l.terminals
     ≡ block_at (listed_of (stmt_at l.deep (expr_at l.room) (init_at l.room (expr_at l.room))) (init_at l.room (expr_at l.room))) (suc (length l.start)) [] l.start
 
 abbrev pub decreases-block_at-statements : goal.decreases-block_at-statements
