@@ -1,0 +1,11 @@
+pub mod Place
+pub mod Cells
+pub mod Work
+pub mod Steps
+pub mod Bounds
+pub mod Runs
+pub mod Seen
+pub mod Begins
+pub mod Phases
+pub mod Life
+pub mod Alive
