@@ -1,0 +1,9 @@
+pub mod Json
+pub mod Text
+pub mod Pragmas
+pub mod Names
+pub mod Regions
+pub mod Items
+pub mod Fits
+pub mod Shareable
+pub mod Labelling

@@ -1,0 +1,3 @@
+pub mod Caps
+pub mod Known
+pub mod Overs

@@ -1,0 +1,3 @@
+pub mod Capped
+pub mod Known
+pub mod Counts
