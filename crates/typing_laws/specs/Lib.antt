@@ -1,0 +1,5 @@
+pub mod Standing
+pub mod Typed
+pub mod Sized
+pub mod Listed
+pub mod Named
