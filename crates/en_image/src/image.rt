@@ -1,6 +1,6 @@
 //! What a machine runs.
 
-ghost use Rattle.std.specs.Prelude.{◌≡◌, ◌+◌, ◌<◌, ◌≤◌, ◌^◌, ℕ, IfSome, nat_le, slice_get};
+ghost use Rattle.std.specs.Prelude.{◌≡◌, ◌+◌, ◌<◌, ◌≤◌, ◌^◌, ℕ, IfSome, IfNone, nat_le, slice_get};
 ghost use Rattle.en_image.specs.Entrances.{IsWidest, entrance_at, joined};
 
 use crate::instr::Instr;
@@ -47,9 +47,10 @@ pub struct Image {
     pub payloads: Items<Payload>,
 }
 
-// The cells of a function's frame.
+// The cells of a function's frame, and 0 for one that is not there.
 fn cells_of(function: Option<Entrance>) -> u32
-    ensures { IfSome function (λ e. e.cells ≡ result) }
+    ensures cells { IfSome function (λ e. e.cells ≡ result) }
+    ensures none { IfNone function (result ≡ 0) }
 {
     match function {
         Some(entrance) => entrance.cells,
@@ -91,9 +92,10 @@ impl Image {
         }
     }
 
-    /// The cells of the largest frame.
+    /// The cells of the largest frame, and 0 where there is no function.
     pub fn largest_frame(&self) -> usize
         ensures widest { IsWidest self.now result }
+        ensures least { (n : ℕ) → IsWidest self.now n → result ≤ n }
         ensures small { result < 2 ^ 32 }
     {
         let mut largest = 0;

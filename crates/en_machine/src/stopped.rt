@@ -1,6 +1,6 @@
 //! What a machine keeps of its calls, and why it stands.
 
-ghost use Rattle.std.specs.Prelude.{◌≡◌, ◌+◌, ◌*◌, ◌<◌, ◌^◌, IfSome};
+ghost use Rattle.std.specs.Prelude.{◌≡◌, ◌+◌, ◌*◌, ◌<◌, ◌≤◌, ◌^◌, IfSome, IfNone};
 ghost use Rattle.cl_base.specs.declared.limits.TheConstants.{ACTIVE_CALLS};
 
 use crate::memory::Frame;
@@ -33,10 +33,11 @@ pub struct Sizes {
 
 impl Sizes {
     /// How many cells there are at most: the static ones, and a frame for each of the calls that may be active and
-    /// one below them.
+    /// one below them. There is none where that passes a `usize`.
     pub fn room(self) -> Option<usize>
         requires { self.largest < 2 ^ 32 }
-        ensures { IfSome result (λ room. room ≡ self.statics + (ACTIVE_CALLS + 1) * self.largest) }
+        ensures value { IfSome result (λ room. room ≡ self.statics + (ACTIVE_CALLS + 1) * self.largest) }
+        ensures past_all { IfNone result (2 ^ 64 ≤ self.statics + (ACTIVE_CALLS + 1) * self.largest) }
     {
         self.statics
             .checked_add((ACTIVE_CALLS as usize + 1) * self.largest)

@@ -1,0 +1,3 @@
+pub mod Weights
+pub mod Lowers
+pub mod Raises
