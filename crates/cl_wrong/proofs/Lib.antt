@@ -1,0 +1,3 @@
+pub mod Heads
+pub mod Params
+pub mod Parts
