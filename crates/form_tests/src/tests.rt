@@ -1,7 +1,8 @@
 // Sources and their programs, by tables.
 
+use cl_base::limits::SOURCE_BYTES;
+use cl_base::name::Name;
 use cl_form::form::{one_reading, read_form};
-use cl_form::stop::FormStop;
 use cl_mean::checked::{Checked, GedlRow};
 use cl_mean::labels::Operation;
 use cl_tree::kinds::{BinOp, IntKind};
@@ -10,43 +11,63 @@ use cl_tree::tree::{Act, CType, Expr, Item, Node, Stmt};
 use std::alloc::Global;
 use std::test::Fail;
 
+fn show_number(alloc: Global, out: &mut String, number: u64) -> Result<(), Fail> {
+    let text = format!(in alloc; "{number}")?;
+    out.push_str(text.as_str())?;
+    Ok(())
+}
+
+// The two lines of a node.
+fn show_lines(alloc: Global, out: &mut String, line: u32, second: u32) -> Result<(), Fail> {
+    let text = format!(in alloc; "{line}.{second}")?;
+    out.push_str(text.as_str())?;
+    Ok(())
+}
+
+fn show_operator(alloc: Global, out: &mut String, op: BinOp, line: u32) -> Result<(), Fail> {
+    let text = format!(in alloc; " {op:?}@{line} ")?;
+    out.push_str(text.as_str())?;
+    Ok(())
+}
+
 // An expression with its lines: `5@2` is a literal of line 2, and `[a -@3 b]@2` begins on line 2.
 #[cycle(show)]
 fn show_expr(alloc: Global, out: &mut String, e: &Expr) -> Result<(), Fail> {
-    let line = e.line;
-    let second = e.second;
     match &e.node {
         Node::Number {
             value,
             kind: IntKind::I32,
         } => {
-            let one = format!(in alloc; "{value}@{line}.{second}")?;
-            out.push_str(one.as_str())?;
+            show_number(alloc, out, *value)?;
+            out.push_str("@")?;
+            show_lines(alloc, out, e.line, e.second)?;
         }
         Node::Paren(inner) => {
-            let open = format!(in alloc; "(@{line}.{second} ")?;
-            out.push_str(open.as_str())?;
+            out.push_str("(@")?;
+            show_lines(alloc, out, e.line, e.second)?;
+            out.push_str(" ")?;
             show_expr(alloc, out, inner.get())?;
             out.push_str(")")?;
         }
         Node::Binary(op, left, right) => {
-            let open = format!(in alloc; "[@{line} ")?;
-            out.push_str(open.as_str())?;
+            out.push_str("[@")?;
+            show_number(alloc, out, u64::from(e.line))?;
+            out.push_str(" ")?;
             show_expr(alloc, out, left.get())?;
-            let middle = format!(in alloc; " {op:?}@{second} ")?;
-            out.push_str(middle.as_str())?;
+            show_operator(alloc, out, *op, e.second)?;
             show_expr(alloc, out, right.get())?;
             out.push_str("]")?;
         }
         Node::Variable(name) => {
-            let text = name.text();
-            let one = format!(in alloc; "{text}@{line}.{second}")?;
-            out.push_str(one.as_str())?;
+            out.push_str(name.text())?;
+            out.push_str("@")?;
+            show_lines(alloc, out, e.line, e.second)?;
         }
         Node::Call(name, arguments) => {
-            let text = name.text();
-            let open = format!(in alloc; "{text}@{line}.{second}{{")?;
-            out.push_str(open.as_str())?;
+            out.push_str(name.text())?;
+            out.push_str("@")?;
+            show_lines(alloc, out, e.line, e.second)?;
+            out.push_str("{")?;
             show_all(alloc, out, arguments.as_slice())?;
             out.push_str("}")?;
         }
@@ -69,43 +90,56 @@ fn show_set(alloc: Global, out: &mut String, place: &Expr, value: &Expr) -> Resu
     show_expr(alloc, out, value)
 }
 
+fn show_stmt(alloc: Global, out: &mut String, s: &Stmt) -> Result<(), Fail> {
+    match &s.node {
+        Act::Call(e) => show_expr(alloc, out, e),
+        Act::Return(Some(e)) => {
+            out.push_str("return ")?;
+            show_expr(alloc, out, e)
+        }
+        Act::Set {
+            op: None,
+            place,
+            value,
+        } => show_set(alloc, out, place, value),
+        _ => Ok(out.push_str("?")?),
+    }
+}
+
 fn show_stmts(alloc: Global, out: &mut String, all: &[Stmt]) -> Result<(), Fail> {
     for s in all {
-        let line = s.line;
-        let second = s.second;
-        let lines = format!(in alloc; " {line}.{second} ")?;
-        out.push_str(lines.as_str())?;
-        match &s.node {
-            Act::Call(e) => show_expr(alloc, out, e)?,
-            Act::Return(Some(e)) => {
-                out.push_str("return ")?;
-                show_expr(alloc, out, e)?;
-            }
-            Act::Set {
-                op: None,
-                place,
-                value,
-            } => show_set(alloc, out, place, value)?,
-            _ => out.push_str("?")?,
-        }
+        out.push_str(" ")?;
+        show_lines(alloc, out, s.line, s.second)?;
+        out.push_str(" ")?;
+        show_stmt(alloc, out, s)?;
         out.push_str(";")?;
     }
     Ok(())
 }
 
+fn show_pragma(alloc: Global, out: &mut String, pragma: &Pragma, line: u32) -> Result<(), Fail> {
+    match pragma {
+        Pragma::Def(name, text) => {
+            out.push_str("def ")?;
+            out.push_str(name.text())?;
+            out.push_str(" ")?;
+            show_number(alloc, out, text.as_slice().len() as u64)?;
+        }
+        Pragma::Next(name) => {
+            out.push_str("next ")?;
+            out.push_str(name.text())?;
+        }
+        _ => return Ok(out.push_str("?")?),
+    }
+    out.push_str("@")?;
+    show_number(alloc, out, u64::from(line))?;
+    out.push_str("|")?;
+    Ok(())
+}
+
 fn show_item(alloc: Global, out: &mut String, item: &Item) -> Result<(), Fail> {
     match item {
-        Item::Cle(Pragma::Def(name, text), line) => {
-            let name = name.text();
-            let text = text.as_slice().len();
-            let one = format!(in alloc; "def {name} {text}@{line}|")?;
-            out.push_str(one.as_str())?;
-        }
-        Item::Cle(Pragma::Next(name), line) => {
-            let name = name.text();
-            let one = format!(in alloc; "next {name}@{line}|")?;
-            out.push_str(one.as_str())?;
-        }
+        Item::Cle(pragma, line) => show_pragma(alloc, out, pragma, *line),
         Item::Function {
             is_static: false,
             result: CType::Integer(IntKind::I32),
@@ -116,41 +150,52 @@ fn show_item(alloc: Global, out: &mut String, item: &Item) -> Result<(), Fail> {
             line,
             second,
         } => {
-            let name = name.text();
-            let count = params.len();
-            let one = format!(in alloc; "{name} {count}@{line}.{second}:")?;
-            out.push_str(one.as_str())?;
-            show_stmts(alloc, out, body.as_slice())?;
+            out.push_str(name.text())?;
+            out.push_str(" ")?;
+            show_number(alloc, out, params.len() as u64)?;
+            out.push_str("@")?;
+            show_lines(alloc, out, *line, *second)?;
+            out.push_str(":")?;
+            show_stmts(alloc, out, body.as_slice())
         }
-        _ => out.push_str("?")?,
+        _ => Ok(out.push_str("?")?),
     }
-    Ok(())
 }
 
-fn show_program(alloc: Global, out: &mut String, c: &Checked) -> Result<(), Fail> {
+// The levels and the items.
+fn program_of(alloc: Global, c: &Checked) -> Result<String, Fail> {
+    let mut out = String::new(alloc);
     for level in c.labels.levels.as_slice() {
         out.push_str(level.text())?;
         out.push_str("|")?;
     }
     for item in c.typed.program.items.as_slice() {
-        show_item(alloc, out, item)?;
-    }
-    Ok(())
-}
-
-fn shown(alloc: Global, source: &[u8]) -> Result<String, Fail> {
-    let mut out = String::new(alloc);
-    if source.len() > 1048576 {
-        return Ok(out);
-    }
-    match read_form(alloc, source) {
-        Ok(c) => show_program(alloc, &mut out, &c)?,
-        Err(stop) => {
-            let one = format!(in alloc; "{stop:?}")?;
-            out.push_str(one.as_str())?;
-        }
+        show_item(alloc, &mut out, item)?;
     }
     Ok(out)
+}
+
+// What is read is held in this, `facts` and `item_count` alone, each with one exit, since the proof of each exit drops
+// the whole tree.
+fn shown(alloc: Global, source: &[u8]) -> Result<String, Fail> {
+    if source.len() > SOURCE_BYTES {
+        return Ok(String::new(alloc));
+    }
+    match read_form(alloc, source) {
+        Ok(c) => program_of(alloc, &c),
+        Err(stop) => Ok(format!(in alloc; "{stop:?}")?),
+    }
+}
+
+// Whether the source is shown so.
+fn is_shown(alloc: Global, source: &str, wanted: &str) -> Result<bool, Fail> {
+    let shown = shown(alloc, source.as_bytes())?;
+    Ok(shown.as_str() == wanted)
+}
+
+// Whether the source is of no form.
+fn is_refused(alloc: Global, source: &str) -> Result<bool, Fail> {
+    is_shown(alloc, source, "NoReading")
 }
 
 const HEAD: &str = "#pragma cle def P {\"level\":\"purple\"}\n";
@@ -180,19 +225,19 @@ const READ: [(&str, &str); 6] = [
     ),
 ];
 
+// Whether the source behind the first line is read, with these statements of `main`.
+fn is_read(alloc: Global, rest: &str, statements: &str) -> Result<bool, Fail> {
+    let source = format!(in alloc; "{HEAD}{rest}")?;
+    let wanted = format!(in alloc; "purple|def P 18@1|main 0@2.2:{statements}")?;
+    is_shown(alloc, source.as_str(), wanted.as_str())
+}
+
 #[test]
 fn reads_programs(rt: HostRuntime) -> Result<(), Fail> {
-    let alloc = rt.alloc();
     one_reading();
     for row in &READ {
-        let (rest, wanted) = *row;
-        let source = format!(in alloc; "{HEAD}{rest}")?;
-        let wanted = format!(in alloc; "purple|def P 18@1|main 0@2.2:{wanted}")?;
-        assert_eq!(rt;
-            shown(alloc, source.as_bytes())?.as_str(),
-            wanted.as_str(),
-            "at {rest:?}"
-        );
+        let (rest, statements) = *row;
+        assert!(rt; is_read(rt.alloc(), rest, statements)?, "at {rest:?}");
     }
     Ok(())
 }
@@ -219,16 +264,16 @@ const OTHERS: [&str; 18] = [
     "",
 ];
 
+// Whether the first line and the rest are of no form.
+fn are_refused(alloc: Global, first: &str, rest: &str) -> Result<bool, Fail> {
+    let source = format!(in alloc; "{first}{rest}")?;
+    is_refused(alloc, source.as_str())
+}
+
 #[test]
 fn refuses_others(rt: HostRuntime) -> Result<(), Fail> {
-    let alloc = rt.alloc();
     for rest in OTHERS {
-        let source = format!(in alloc; "{HEAD}{rest}")?;
-        assert_eq!(rt;
-            shown(alloc, source.as_bytes())?.as_str(),
-            "NoReading",
-            "at {rest:?}"
-        );
+        assert!(rt; are_refused(rt.alloc(), HEAD, rest)?, "at {rest:?}");
     }
     Ok(())
 }
@@ -256,14 +301,19 @@ const FIRST_LINES: [(&str, bool); 11] = [
 
 #[test]
 fn reads_first_lines(rt: HostRuntime) -> Result<(), Fail> {
-    let alloc = rt.alloc();
     for row in &FIRST_LINES {
         let (line, wanted) = *row;
-        let source = format!(in alloc; "{line}int main(void){{}}")?;
-        let read = shown(alloc, source.as_bytes())?;
-        assert_eq!(rt; read.as_str() != "NoReading", wanted, "at {line:?}");
+        let refused = are_refused(rt.alloc(), line, "int main(void){}")?;
+        assert_eq!(rt; !refused, wanted, "at {line:?}");
     }
-    assert_eq!(rt; shown(alloc, b"".as_slice())?.as_str(), "NoReading");
+    assert!(rt; is_refused(rt.alloc(), "")?);
+    Ok(())
+}
+
+fn add(out: &mut String, part: &str, count: u32) -> Result<(), Fail> {
+    for _ in 0..count {
+        out.push_str(part)?;
+    }
     Ok(())
 }
 
@@ -277,28 +327,31 @@ fn repeated(
     let mut out = String::new(alloc);
     out.push_str(HEAD)?;
     out.push_str(before)?;
-    for _ in 0..count {
-        out.push_str(part)?;
-    }
+    add(&mut out, part, count)?;
     out.push_str(behind)?;
     Ok(out)
+}
+
+fn show_fact(
+    alloc: Global,
+    out: &mut String,
+    name: &Name,
+    item: u32,
+    line: u32,
+) -> Result<(), Fail> {
+    let name = name.text();
+    let one = format!(in alloc; "{name} {item}@{line}|")?;
+    out.push_str(one.as_str())?;
+    Ok(())
 }
 
 // The functions and the objects, with their items and lines.
 fn show_typed(alloc: Global, out: &mut String, c: &Checked) -> Result<(), Fail> {
     for f in c.typed.functions.as_slice() {
-        let name = f.name.text();
-        let item = f.item;
-        let line = f.line;
-        let one = format!(in alloc; "{name} {item}@{line}|")?;
-        out.push_str(one.as_str())?;
+        show_fact(alloc, out, &f.name, f.item, f.line)?;
     }
     for o in c.typed.objects.as_slice() {
-        let name = o.name.text();
-        let item = o.item;
-        let line = o.line;
-        let one = format!(in alloc; "{name} {item}@{line}|")?;
-        out.push_str(one.as_str())?;
+        show_fact(alloc, out, &o.name, o.item, o.line)?;
     }
     Ok(())
 }
@@ -331,25 +384,25 @@ fn show_row(alloc: Global, out: &mut String, row: &GedlRow) -> Result<(), Fail> 
 }
 
 // What the checks say of a source: functions, objects, levels and rows.
-fn show_facts(alloc: Global, out: &mut String, c: &Checked) -> Result<(), Fail> {
-    show_typed(alloc, out, c)?;
-    show_numbers(alloc, out, c.levels.of_functions.as_slice())?;
-    show_numbers(alloc, out, c.levels.of_objects.as_slice())?;
+fn facts_of(alloc: Global, c: &Checked) -> Result<String, Fail> {
+    let mut out = String::new(alloc);
+    show_typed(alloc, &mut out, c)?;
+    show_numbers(alloc, &mut out, c.levels.of_functions.as_slice())?;
+    show_numbers(alloc, &mut out, c.levels.of_objects.as_slice())?;
     for row in c.gedl.rows.as_slice() {
-        show_row(alloc, out, row)?;
+        show_row(alloc, &mut out, row)?;
     }
-    Ok(())
+    Ok(out)
 }
 
 fn facts(alloc: Global, source: &[u8]) -> Result<String, Fail> {
-    let mut out = String::new(alloc);
-    if source.len() > 1048576 {
-        return Ok(out);
+    if source.len() > SOURCE_BYTES {
+        return Ok(String::new(alloc));
     }
-    if let Ok(c) = read_form(alloc, source) {
-        show_facts(alloc, &mut out, &c)?;
+    match read_form(alloc, source) {
+        Ok(c) => facts_of(alloc, &c),
+        Err(_) => Ok(String::new(alloc)),
     }
-    Ok(out)
 }
 
 const PAIR: &str =
@@ -373,22 +426,24 @@ const READ_PAIRS: [(&str, &str, &str); 3] = [
     ("48 + f()", "48", ""),
 ];
 
+/// How the source of two levels is shown.
+const PAIR_SHOWN: &str =
+    "purple|orange|def PURPLE 18@1|def ORANGE 18@2|def RESP 18@3|def GETA 177@4|next ORANGE@5|?next GETA@7|f 0@8.8: 8.8 a@8.8 = [@8 a@8.8 Add@8 1@8.8]; 8.8 return a@8.8;main 0@9.9: 9.9 putchar@9.9{[@9 48@9.9 Add@9 f@9.9{}]}; 9.9 return 0@9.9;";
+
+// Whether a text in the place of another leaves two levels, with this row.
+fn has_row(alloc: Global, old: &str, new: &str, row: &str) -> Result<bool, Fail> {
+    let source = replaced(alloc, PAIR, old, new)?;
+    let wanted = format!(in alloc; "f 7@8|main 8@9|a 5@6|1 0 |1 |{row}")?;
+    let found = facts(alloc, source.as_bytes())?;
+    Ok(found.as_str() == wanted.as_str())
+}
+
 #[test]
 fn reads_two_levels(rt: HostRuntime) -> Result<(), Fail> {
-    let alloc = rt.alloc();
-    assert_eq!(rt;
-        shown(alloc, PAIR.as_bytes())?.as_str(),
-        "purple|orange|def PURPLE 18@1|def ORANGE 18@2|def RESP 18@3|def GETA 177@4|next ORANGE@5|?next GETA@7|f 0@8.8: 8.8 a@8.8 = [@8 a@8.8 Add@8 1@8.8]; 8.8 return a@8.8;main 0@9.9: 9.9 putchar@9.9{[@9 48@9.9 Add@9 f@9.9{}]}; 9.9 return 0@9.9;"
-    );
+    assert!(rt; is_shown(rt.alloc(), PAIR, PAIR_SHOWN)?);
     for row in &READ_PAIRS {
         let (old, new, wanted) = *row;
-        let source = replaced(alloc, PAIR, old, new)?;
-        let wanted = format!(in alloc; "f 7@8|main 8@9|a 5@6|1 0 |1 |{wanted}")?;
-        assert_eq!(rt;
-            facts(alloc, source.as_bytes())?.as_str(),
-            wanted.as_str(),
-            "at {new:?}"
-        );
+        assert!(rt; has_row(rt.alloc(), old, new, wanted)?, "at {new:?}");
     }
     Ok(())
 }
@@ -414,82 +469,94 @@ const OTHER_PAIRS: [(&str, &str); 17] = [
     ("argtaints\":[]", "argtaints\":[[]]"),
 ];
 
+// Whether a text in the place of another leaves a source of no form.
+fn spoils(alloc: Global, old: &str, new: &str) -> Result<bool, Fail> {
+    let source = replaced(alloc, PAIR, old, new)?;
+    is_refused(alloc, source.as_str())
+}
+
 #[test]
 fn refuses_other_pairs(rt: HostRuntime) -> Result<(), Fail> {
-    let alloc = rt.alloc();
     for row in &OTHER_PAIRS {
         let (old, new) = *row;
-        let source = replaced(alloc, PAIR, old, new)?;
-        assert_eq!(rt;
-            shown(alloc, source.as_bytes())?.as_str(),
-            "NoReading",
-            "at {new:?}"
-        );
+        assert!(rt; spoils(rt.alloc(), old, new)?, "at {new:?}");
     }
     Ok(())
 }
 
-// Each is refused for what two changes make of the source.
+/// Two changes, for both of which the source is of no form.
+const CHANGED_TWICE: [(&str, &str, &str, &str); 3] = [
+    (
+        "int a;",
+        "int main;",
+        "a = a + 1; return a;",
+        "main = main + 1; return main;",
+    ),
+    ("int f(", "int putchar(", "f())", "putchar())"),
+    // The other order of the second and the third line.
+    (
+        "ORANGE {\"level\":\"orange\"}\n#pragma cle def ",
+        "",
+        "GETA {",
+        "ORANGE {\"level\":\"orange\"}\n#pragma cle def GETA {",
+    ),
+];
+
+// Whether the two changes leave a source of no form.
+fn spoil(alloc: Global, row: &(&str, &str, &str, &str)) -> Result<bool, Fail> {
+    let (old, new, then, last) = *row;
+    let once = replaced(alloc, PAIR, old, new)?;
+    let twice = replaced(alloc, once.as_str(), then, last)?;
+    is_refused(alloc, twice.as_str())
+}
+
 #[test]
 fn refuses_changed_twice(rt: HostRuntime) -> Result<(), Fail> {
-    let alloc = rt.alloc();
-    let orange = "ORANGE {\"level\":\"orange\"}\n#pragma cle def ";
-    let behind = "ORANGE {\"level\":\"orange\"}\n#pragma cle def GETA {";
-    for (old, new, then, last) in [
-        (
-            "int a;",
-            "int main;",
-            "a = a + 1; return a;",
-            "main = main + 1; return main;",
-        ),
-        ("int f(", "int putchar(", "f())", "putchar())"),
-        // the other order of the second and the third line
-        (orange, "", "GETA {", behind),
-    ] {
-        let source = replaced(alloc, PAIR, old, new)?;
-        let source = replaced(alloc, source.as_str(), then, last)?;
-        assert_eq!(rt;
-            shown(alloc, source.as_bytes())?.as_str(),
-            "NoReading",
-            "at {new:?}"
-        );
+    for row in &CHANGED_TWICE {
+        assert!(rt; spoil(rt.alloc(), row)?);
     }
     Ok(())
+}
+
+/// What stands before a text that is repeated, the text, what stands in the middle, a text that is repeated as often,
+/// what stands behind it, how often, and whether that is read. `return`, 1 and 255 times `+ 1` are 512 tokens.
+const LIMITS: [(&str, &str, &str, &str, &str, u32, bool); 4] = [
+    ("int main(void){return 1", "+1", "", "", ";}", 255, true),
+    ("int main(void){putchar(1", "+1", "", "", ");}", 255, false),
+    ("int main(void){return ", "(", "1", ")", ";}", 63, true),
+    ("int main(void){return ", "(", "1", ")", ";}", 64, false),
+];
+
+fn is_over(alloc: Global, row: &(&str, &str, &str, &str, &str, u32, bool)) -> Result<bool, Fail> {
+    let (before, part, middle, other, behind, count, _) = *row;
+    let mut source = repeated(alloc, before, part, count, middle)?;
+    add(&mut source, other, count)?;
+    source.push_str(behind)?;
+    is_refused(alloc, source.as_str())
 }
 
 #[test]
 fn keeps_limits(rt: HostRuntime) -> Result<(), Fail> {
-    let alloc = rt.alloc();
-    // `return`, 1 and 255 times `+ 1` are 512 tokens
-    let most = repeated(alloc, "int main(void){return 1", "+1", 255, ";}")?;
-    assert!(rt; shown(alloc, most.as_bytes())?.as_str() != "NoReading");
-    let more = repeated(alloc, "int main(void){putchar(1", "+1", 255, ");}")?;
-    assert_eq!(rt; shown(alloc, more.as_bytes())?.as_str(), "NoReading");
-    for (count, wanted) in [(63, true), (64, false)] {
-        let mut source = repeated(alloc, "int main(void){return ", "(", count, "1")?;
-        for _ in 0..count {
-            source.push_str(")")?;
-        }
-        source.push_str(";}")?;
-        assert_eq!(rt;
-            shown(alloc, source.as_bytes())?.as_str() != "NoReading",
-            wanted,
-            "at {count}"
-        );
+    for row in &LIMITS {
+        assert_eq!(rt; !is_over(rt.alloc(), row)?, row.6);
     }
     Ok(())
+}
+
+fn item_count(alloc: Global, source: &[u8]) -> Option<usize> {
+    if source.len() > SOURCE_BYTES {
+        return None;
+    }
+    match read_form(alloc, source) {
+        Ok(c) => Some(c.typed.program.items.len()),
+        Err(_) => None,
+    }
 }
 
 #[test]
 fn reads_a_mebibyte(rt: HostRuntime) -> Result<(), Fail> {
     let alloc = rt.alloc();
     let source = repeated(alloc, "int main(void){", "return (1+2)*3-4;\n", 58000, "}")?;
-    let bytes = source.as_bytes();
-    if bytes.len() <= 1048576 {
-        match read_form(alloc, bytes) {
-            Ok(c) => assert_eq!(rt; c.typed.program.items.len(), 2),
-            Err(_) => assert!(rt; false),
-        }
-    }
+    assert_eq!(rt; item_count(alloc, source.as_bytes()), Some(2));
     Ok(())
 }

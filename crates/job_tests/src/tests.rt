@@ -94,35 +94,64 @@ fn split(alloc: Global, line: &str) -> Result<Vec<String>, Fail> {
     Ok(words)
 }
 
-/// Carries a command out, and compares what comes of it.
-fn check(rt: &impl Abort, alloc: Global, case: &Case<'_>) -> Result<(), Fail> {
-    let mut job = Job {
+/// The sinks and the files of a command, and the allocator.
+fn job(alloc: Global, case: &Case<'_>) -> Result<Job<MemFiles, MemSink, MemSink>, Fail> {
+    let files = files(alloc, case)?;
+    let out = sink(alloc, case.out_room, case.out_fails)?;
+    let err = sink(alloc, 1000, case.err_fails)?;
+    Ok(Job {
         alloc,
-        files: files(alloc, case)?,
-        out: sink(alloc, case.out_room, case.out_fails)?,
-        err: sink(alloc, 1000, case.err_fails)?,
-    };
-    let words = split(alloc, case.line)?;
-    let status = closure(&mut job, words.as_slice());
-    let Job {
-        mut files,
+        files,
         out,
         err,
-        ..
-    } = job;
+    })
+}
+
+/// Whether the file `j` holds these bytes, or isn't there.
+fn is_kept(alloc: Global, files: &mut MemFiles, journal: Option<&[u8]>) -> bool {
+    match files.read(alloc, "j", 1000) {
+        Ok(bytes) => Some(bytes.as_slice()) == journal,
+        Err(_) => journal.is_none(),
+    }
+}
+
+/// What is not as it is to be once a command ended.
+fn difference(
+    job: &mut Job<MemFiles, MemSink, MemSink>,
+    status: Status,
+    case: &Case<'_>,
+) -> Option<&'static str> {
+    if job.err.bytes() != case.err.as_bytes() {
+        Some("standard error")
+    } else if status != case.status {
+        Some("status")
+    } else if job.out.bytes() != case.out {
+        Some("standard output")
+    } else if !is_kept(job.alloc, &mut job.files, case.journal) {
+        Some("journal")
+    } else {
+        None
+    }
+}
+
+/// Carries a command out, and says what comes of it in another way than it is to.
+fn carry_out(alloc: Global, case: &Case<'_>) -> Result<Option<&'static str>, Fail> {
+    let words = split(alloc, case.line)?;
+    let mut job = job(alloc, case)?;
+    let status = closure(&mut job, words.as_slice());
+    Ok(difference(&mut job, status, case))
+}
+
+/// Carries a command out, and compares what comes of it. (A test with few steps has a short proof.)
+fn check(rt: &impl Abort, alloc: Global, case: &Case<'_>) -> Result<(), Fail> {
+    let difference = carry_out(alloc, case)?;
     let line = case.line;
     let body = if case.body.len() < 200 {
         case.body
     } else {
         "a long source"
     };
-    assert_eq!(rt; err.bytes(), case.err.as_bytes(), "{line}: {body}");
-    assert_eq!(rt; status, case.status, "{line}: {body}");
-    assert_eq!(rt; out.bytes(), case.out, "{line}: {body}");
-    match files.read(alloc, "j", 1000) {
-        Ok(bytes) => assert_eq!(rt; Some(bytes.as_slice()), case.journal, "{line}: {body}"),
-        Err(_) => assert_eq!(rt; None, case.journal, "{line}: {body}"),
-    }
+    assert_eq!(rt; difference, None, "{line}: {body}");
     Ok(())
 }
 
@@ -136,15 +165,17 @@ struct Ran {
 
 /// Runs a source where nothing fails.
 fn run(alloc: Global, source: &str) -> Result<Ran, Fail> {
+    let words = split(alloc, "run a.c")?;
     let mut files = MemFiles::new(alloc)?;
     files.add("a.c", source.as_bytes())?;
+    let out = MemSink::new(alloc, 10_000)?;
+    let err = MemSink::new(alloc, 1000)?;
     let mut job = Job {
         alloc,
         files,
-        out: MemSink::new(alloc, 10_000)?,
-        err: MemSink::new(alloc, 1000)?,
+        out,
+        err,
     };
-    let words = split(alloc, "run a.c")?;
     let status = closure(&mut job, words.as_slice());
     let Job { out, err, .. } = job;
     Ok(Ran { status, out, err })

@@ -101,22 +101,22 @@ fn function(alloc: Global, name: &str, line: u32, body: Items<Stmt>) -> Result<I
     })
 }
 
+/// `a = a + STEP;`
+fn add(alloc: Global, step: u64) -> Result<Stmt, NoMemory> {
+    let left = variable(alloc)?;
+    let value = binary(alloc, OTHER_LINE, BinOp::Add, left, number(step))?;
+    let place = variable(alloc)?;
+    Ok(statement(Act::Set {
+        op: None,
+        place,
+        value,
+    }))
+}
+
 /// `int f(void) { a = a + STEP; return a; }`
 fn other(alloc: Global, step: u64) -> Result<Item, NoMemory> {
-    let sum = binary(
-        alloc,
-        OTHER_LINE,
-        BinOp::Add,
-        variable(alloc)?,
-        number(step),
-    )?;
-    let set = Act::Set {
-        op: None,
-        place: variable(alloc)?,
-        value: sum,
-    };
     let mut body = Items::new(alloc);
-    body.push(statement(set))?;
+    body.push(add(alloc, step)?)?;
     body.push(give(variable(alloc)?))?;
     function(alloc, "f", OTHER_LINE, body)
 }
@@ -161,12 +161,28 @@ fn row(alloc: Global) -> Result<GedlRow, NoMemory>
     })
 }
 
-/// A program with its functions and its objects.
-fn typed(alloc: Global, items: Items<Item>, functions: Items<FnFact>) -> Result<Typed, NoMemory>
-    ensures { IfOk result (λ t. t.functions ≡ functions) }
-{
+/// The only object.
+fn objects(alloc: Global) -> Result<Items<ObjFact>, NoMemory> {
     let mut objects = Items::new(alloc);
     objects.push(object(alloc)?)?;
+    Ok(objects)
+}
+
+/// The function `main`.
+fn functions(alloc: Global) -> Result<Items<FnFact>, NoMemory>
+    ensures { IfOk result (λ functions. 0 < length functions) }
+{
+    let mut functions = Items::new(alloc);
+    functions.push(fact(alloc, "main", 0, MAIN_LINE)?)?;
+    Ok(functions)
+}
+
+/// A program with its functions and its objects.
+fn typed(alloc: Global, items: Items<Item>) -> Result<Typed, NoMemory>
+    ensures { IfOk result (λ t. 0 < length t.functions) }
+{
+    let functions = functions(alloc)?;
+    let objects = objects(alloc)?;
     Ok(Typed {
         program: Program { items },
         functions,
@@ -191,6 +207,48 @@ fn object_levels(alloc: Global) -> Result<Items<u32>, NoMemory> {
     Ok(numbers)
 }
 
+/// Two levels, and no labels.
+fn labels(alloc: Global) -> Result<LabelTable, NoMemory>
+    ensures { IfOk result (λ table. length table.levels ≡ 2) }
+{
+    Ok(LabelTable {
+        levels: level_names(alloc)?,
+        labels: Items::new(alloc),
+        on_functions: Items::new(alloc),
+        on_objects: Items::new(alloc),
+    })
+}
+
+/// `main` is of level 0.
+fn levels(alloc: Global) -> Result<Levels, NoMemory>
+    ensures { IfOk result (λ levels. levels.main ≡ 0) }
+{
+    Ok(Levels {
+        of_functions: Items::new(alloc),
+        of_objects: object_levels(alloc)?,
+        main: 0,
+    })
+}
+
+fn flow(alloc: Global) -> Flow {
+    Flow {
+        objects: Items::new(alloc),
+        locals: Items::new(alloc),
+        results: Items::new(alloc),
+    }
+}
+
+fn gedl(alloc: Global, rows: Items<GedlRow>) -> GedlRows
+    ensures rows { result.rows ≡ rows }
+    ensures calling { result.main ≡ 0 }
+{
+    GedlRows {
+        levels: Items::new(alloc),
+        main: 0,
+        rows,
+    }
+}
+
 /// A checked source of two levels with these rows. `main` is of level 0.
 fn checked(alloc: Global, items: Items<Item>, rows: Items<GedlRow>) -> Result<Checked, NoMemory>
     ensures rows { IfOk result (λ c. c.gedl.rows ≡ rows) }
@@ -199,31 +257,15 @@ fn checked(alloc: Global, items: Items<Item>, rows: Items<GedlRow>) -> Result<Ch
     ensures calling { IfOk result (λ c. c.gedl.main ≡ 0) }
     ensures functions { IfOk result (λ c. 0 < length c.typed.functions) }
 {
-    let mut functions = Items::new(alloc);
-    functions.push(fact(alloc, "main", 0, MAIN_LINE)?)?;
+    let labels = labels(alloc)?;
+    let levels = levels(alloc)?;
+    let typed = typed(alloc, items)?;
     Ok(Checked {
-        typed: typed(alloc, items, functions)?,
-        labels: LabelTable {
-            levels: level_names(alloc)?,
-            labels: Items::new(alloc),
-            on_functions: Items::new(alloc),
-            on_objects: Items::new(alloc),
-        },
-        levels: Levels {
-            of_functions: Items::new(alloc),
-            of_objects: object_levels(alloc)?,
-            main: 0,
-        },
-        flow: Flow {
-            objects: Items::new(alloc),
-            locals: Items::new(alloc),
-            results: Items::new(alloc),
-        },
-        gedl: GedlRows {
-            levels: Items::new(alloc),
-            main: 0,
-            rows,
-        },
+        typed,
+        labels,
+        levels,
+        flow: flow(alloc),
+        gedl: gedl(alloc, rows),
     })
 }
 
@@ -236,13 +278,19 @@ fn alone(alloc: Global, main: Items<Stmt>) -> Result<Checked, NoMemory>
     checked(alloc, items, Items::new(alloc))
 }
 
-/// A checked source of `f`, which adds to `a`, and `main`, which calls it.
-fn pair(alloc: Global, step: u64, main: Items<Stmt>) -> Result<Checked, NoMemory>
-    ensures { IfOk result IsServed }
-{
+/// The items of `f`, which adds to `a`, and `main`, which calls it.
+fn both(alloc: Global, step: u64, main: Items<Stmt>) -> Result<Items<Item>, NoMemory> {
     let mut items = Items::new(alloc);
     items.push(other(alloc, step)?)?;
     items.push(function(alloc, "main", MAIN_LINE, main)?)?;
+    Ok(items)
+}
+
+/// A checked source of these two.
+fn pair(alloc: Global, step: u64, main: Items<Stmt>) -> Result<Checked, NoMemory>
+    ensures { IfOk result IsServed }
+{
+    let items = both(alloc, step, main)?;
     let mut rows = Items::new(alloc);
     rows.push(row(alloc)?)?;
     checked(alloc, items, rows)
@@ -256,65 +304,117 @@ fn output(finished: &Finished, level: usize) -> &[u8] {
     }
 }
 
-#[test]
-fn one_level_runs(rt: HostRuntime) -> Result<(), Fail> {
-    let alloc = rt.alloc();
+/// What a run is to give: what the two levels wrote, the journal, the number of its frames, and the end.
+struct Wanted<'a> {
+    outputs: [&'a [u8]; 2],
+    journal: &'a [u8],
+    frames: u64,
+    end: End,
+}
+
+/// What is not as it is to be.
+fn difference(finished: &Finished, wanted: &Wanted<'_>) -> Option<&'static str> {
+    let [first, second] = wanted.outputs;
+    if output(finished, 0) != first || output(finished, 1) != second {
+        Some("outputs")
+    } else if finished.hal.journal() != wanted.journal {
+        Some("journal")
+    } else if finished.hal.frames() != wanted.frames {
+        Some("frames")
+    } else if finished.end != wanted.end {
+        Some("end")
+    } else {
+        None
+    }
+}
+
+// A checked source is held in these two alone: where a test with many exits holds it, each exit's proof drops the tree.
+fn run_alone(alloc: Global, main: Items<Stmt>) -> Result<Finished, NoMemory> {
+    let checked = alone(alloc, main)?;
+    run_checked(alloc, &checked)
+}
+
+fn run_pair(alloc: Global, step: u64, main: Items<Stmt>) -> Result<Finished, NoMemory> {
+    let checked = pair(alloc, step, main)?;
+    run_checked(alloc, &checked)
+}
+
+/// `putchar(72); return 3 - 1;`
+fn one_level(alloc: Global) -> Result<Items<Stmt>, NoMemory> {
     let mut main = Items::new(alloc);
     main.push(put(alloc, number(72))?)?;
     main.push(give(binary(alloc, MAIN_LINE, BinOp::Sub, number(3), number(1))?))?;
-    let checked = alone(alloc, main)?;
-    let finished = run_checked(alloc, &checked)?;
-    assert_eq!(rt; output(&finished, 0), b"H".as_slice());
-    assert_eq!(rt; output(&finished, 1), b"".as_slice());
-    assert_eq!(rt; finished.hal.frames(), 0);
-    assert_eq!(rt; finished.end, End::Exit(2));
+    Ok(main)
+}
+
+const ONE_LEVEL: Wanted<'static> = Wanted {
+    outputs: [b"H", b""],
+    journal: b"",
+    frames: 0,
+    end: End::Exit(2),
+};
+
+#[test]
+fn one_level_runs(rt: HostRuntime) -> Result<(), Fail> {
+    let alloc = rt.alloc();
+    let finished = run_alone(alloc, one_level(alloc)?)?;
+    assert_eq!(rt; difference(&finished, &ONE_LEVEL), None);
     Ok(())
 }
 
-/// Two calls whose replies are 1 and 2.
-const TWO_CALLS: &[u8] =
-    b"\0\0\0\x01\0\0\0\x01\0\0\0\x01\0\0\0\0\0\0\0\x01\0\0\0\0\0\0\0\0\x01\0\0\0\x01\0\0\0\x02\0\0\0\0\0\0\0\x02\0\0\0\0\x04\0\0\0\x01\0\0\0\x01\0\0\0\x01\0\0\0\x01\0\0\0\0\0\0\0\x03\0\0\0\0\0\0\0\0\x01\0\0\0\x01\0\0\0\x02\0\0\0\0\0\0\0\x04\0\0\0\0\x04\0\0\0\x02";
-
-#[test]
-fn calls_cross(rt: HostRuntime) -> Result<(), Fail> {
-    let alloc = rt.alloc();
+/// `putchar(48 + f()); putchar(48 + f()); return 0;`
+fn two_calls(alloc: Global) -> Result<Items<Stmt>, NoMemory> {
     let mut main = Items::new(alloc);
     main.push(put_digit(alloc)?)?;
     main.push(put_digit(alloc)?)?;
     main.push(give(number(0)))?;
-    let checked = pair(alloc, 1, main)?;
-    let finished = run_checked(alloc, &checked)?;
-    assert_eq!(rt; output(&finished, 0), b"12".as_slice());
-    assert_eq!(rt; output(&finished, 1), b"".as_slice());
-    assert_eq!(rt; finished.hal.journal(), TWO_CALLS);
-    assert_eq!(rt; finished.hal.frames(), 4);
-    assert_eq!(rt; finished.end, End::Exit(0));
+    Ok(main)
+}
+
+/// Two calls whose replies are 1 and 2.
+const TWO_CALLS: Wanted<'static> = Wanted {
+    outputs: [b"12", b""],
+    journal: b"\0\0\0\x01\0\0\0\x01\0\0\0\x01\0\0\0\0\0\0\0\x01\0\0\0\0\0\0\0\0\x01\0\0\0\x01\0\0\0\x02\0\0\0\0\0\0\0\x02\0\0\0\0\x04\0\0\0\x01\0\0\0\x01\0\0\0\x01\0\0\0\x01\0\0\0\0\0\0\0\x03\0\0\0\0\0\0\0\0\x01\0\0\0\x01\0\0\0\x02\0\0\0\0\0\0\0\x04\0\0\0\0\x04\0\0\0\x02",
+    frames: 4,
+    end: End::Exit(0),
+};
+
+#[test]
+fn calls_cross(rt: HostRuntime) -> Result<(), Fail> {
+    let alloc = rt.alloc();
+    let finished = run_pair(alloc, 1, two_calls(alloc)?)?;
+    assert_eq!(rt; difference(&finished, &TWO_CALLS), None);
     Ok(())
 }
 
+/// `putchar(65); return f() - f();`
+fn subtracted(alloc: Global) -> Result<Items<Stmt>, NoMemory> {
+    let mut main = Items::new(alloc);
+    main.push(put(alloc, number(65))?)?;
+    let left = call_other(alloc)?;
+    let right = call_other(alloc)?;
+    main.push(give(binary(alloc, MAIN_LINE, BinOp::Sub, left, right)?))?;
+    Ok(main)
+}
+
 /// A call whose reply is the greatest `int`, and one that a trap breaks off.
-const BROKEN_CALL: &[u8] =
-    b"\0\0\0\x01\0\0\0\x01\0\0\0\x01\0\0\0\0\0\0\0\x01\0\0\0\0\0\0\0\0\x01\0\0\0\x01\0\0\0\x02\0\0\0\0\0\0\0\x02\0\0\0\0\x04\x7f\xff\xff\xff\0\0\0\x01\0\0\0\x01\0\0\0\x01\0\0\0\0\0\0\0\x03\0\0\0\0\0\0\0\0\x01\0\0\0\x01\0\0\0\x02\0\0\0\0\0\0\0\x04\x02\0\0\0\0";
+const BROKEN_CALL: Wanted<'static> = Wanted {
+    outputs: [b"A", b""],
+    journal: b"\0\0\0\x01\0\0\0\x01\0\0\0\x01\0\0\0\0\0\0\0\x01\0\0\0\0\0\0\0\0\x01\0\0\0\x01\0\0\0\x02\0\0\0\0\0\0\0\x02\0\0\0\0\x04\x7f\xff\xff\xff\0\0\0\x01\0\0\0\x01\0\0\0\x01\0\0\0\0\0\0\0\x03\0\0\0\0\0\0\0\0\x01\0\0\0\x01\0\0\0\x02\0\0\0\0\0\0\0\x04\x02\0\0\0\0",
+    frames: 4,
+    end: End::Trapped(
+        1,
+        Trap {
+            cause: TrapCause::Overflow,
+            line: OTHER_LINE,
+        },
+    ),
+};
 
 #[test]
 fn a_trap_breaks_a_call_off(rt: HostRuntime) -> Result<(), Fail> {
     let alloc = rt.alloc();
-    let mut main = Items::new(alloc);
-    main.push(put(alloc, number(65))?)?;
-    main.push(give(binary(
-        alloc,
-        MAIN_LINE,
-        BinOp::Sub,
-        call_other(alloc)?,
-        call_other(alloc)?,
-    )?))?;
-    let checked = pair(alloc, 2147483647, main)?;
-    let finished = run_checked(alloc, &checked)?;
-    let cause = TrapCause::Overflow;
-    let line = OTHER_LINE;
-    assert_eq!(rt; output(&finished, 0), b"A".as_slice());
-    assert_eq!(rt; finished.hal.journal(), BROKEN_CALL);
-    assert_eq!(rt; finished.hal.frames(), 4);
-    assert_eq!(rt; finished.end, End::Trapped(1, Trap { cause, line }));
+    let finished = run_pair(alloc, 2147483647, subtracted(alloc)?)?;
+    assert_eq!(rt; difference(&finished, &BROKEN_CALL), None);
     Ok(())
 }

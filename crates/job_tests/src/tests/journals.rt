@@ -2,6 +2,7 @@
 
 use super::{Case, PAIR, PLAIN, check, run};
 use cl_job::status::Status;
+use std::alloc::Global;
 use std::test::Fail;
 
 /// `f` adds one to `a`, and `main` writes its two answers.
@@ -85,23 +86,34 @@ fn journals_are_kept(rt: HostRuntime) -> Result<(), Fail> {
     Ok(())
 }
 
-/// A call costs 54, so that 155,344 calls cost 8,388,576 and one more would pass 8,388,608. Each statement calls 100
-/// times and writes an `A`.
-#[test]
-fn the_frame_budget_ends(rt: HostRuntime) -> Result<(), Fail> {
-    let alloc = rt.alloc();
+/// `putchar(65+f()+f() ..);` with 100 calls.
+fn statement(alloc: Global) -> Result<String, Fail> {
     let mut statement = String::from_str(alloc, "putchar(65")?;
     for _ in 0..100u32 {
         statement.push_str("+f()")?;
     }
     statement.push_str(");\n")?;
+    Ok(statement)
+}
+
+/// 1554 such statements.
+fn statements(alloc: Global) -> Result<String, Fail> {
+    let statement = statement(alloc)?;
     let mut source = String::from_str(alloc, PAIR)?;
     source.push_str("int f(void) { return 0; }\nint main(void) {\n")?;
     for _ in 0..1554u32 {
         source.push_str(statement.as_str())?;
     }
     source.push('}')?;
-    let ran = run(alloc, source.as_str())?;
+    Ok(source)
+}
+
+/// A call costs 54, so that 155,344 calls cost 8,388,576 and one more would pass 8,388,608. Each statement calls 100
+/// times and writes an `A`.
+#[test]
+fn the_frame_budget_ends(rt: HostRuntime) -> Result<(), Fail> {
+    let source = statements(rt.alloc())?;
+    let ran = run(rt.alloc(), source.as_str())?;
     assert_eq!(rt; ran.status, Status::Trapped);
     let first = b"level purple 1553 bytes\nA".as_slice();
     let last =

@@ -2,6 +2,7 @@
 
 use super::{Case, PLAIN, check, run};
 use cl_job::status::Status;
+use std::alloc::Global;
 use std::test::Fail;
 
 /// A source behind its first line, what its run writes, and its status.
@@ -125,27 +126,36 @@ fn other_sources_are_refused(rt: HostRuntime) -> Result<(), Fail> {
     Ok(())
 }
 
-/// 1,048,576 bytes are a source, and one more is too many. Newlines fill the source.
-#[test]
-fn a_source_has_a_limit(rt: HostRuntime) -> Result<(), Fail> {
-    let alloc = rt.alloc();
+/// The source of `PLAIN`, which newlines fill.
+fn longest(alloc: Global) -> Result<String, Fail> {
     let mut source = String::from_str(alloc, PLAIN.head)?;
     source.push_str(PLAIN.body)?;
     for _ in source.len()..1_048_576 {
         source.push('\n')?;
     }
-    let longest = run(alloc, source.as_str())?;
-    assert_eq!(rt; longest.status, Status::Done);
-    assert_eq!(rt;
-        longest.out.bytes(),
-        b"level purple 1 bytes\nH\nframes 0\nend exit 0\n".as_slice()
-    );
+    Ok(source)
+}
+
+/// Whether a source gives these at standard output and standard error, and how it ends.
+fn gives(
+    alloc: Global,
+    source: &str,
+    status: Status,
+    out: &[u8],
+    err: &[u8],
+) -> Result<bool, Fail> {
+    let ran = run(alloc, source)?;
+    Ok(ran.status == status && ran.out.bytes() == out && ran.err.bytes() == err)
+}
+
+/// 1,048,576 bytes are a source, and one more is too many.
+#[test]
+fn a_source_has_a_limit(rt: HostRuntime) -> Result<(), Fail> {
+    let mut source = longest(rt.alloc())?;
+    let out = b"level purple 1 bytes\nH\nframes 0\nend exit 0\n";
+    assert!(rt; gives(rt.alloc(), source.as_str(), Status::Done, out, b"")?);
     source.push('\n')?;
-    let too_long = run(alloc, source.as_str())?;
-    assert_eq!(rt; too_long.status, Status::Refused);
-    assert_eq!(rt;
-        too_long.err.bytes(),
-        b"closure: E01 at 1: source too long\n".as_slice()
-    );
+    let err = b"closure: E01 at 1: source too long\n";
+    assert!(rt; gives(rt.alloc(), source.as_str(), Status::Refused, b"", err)?);
     Ok(())
 }

@@ -67,69 +67,113 @@ fn write_and_read<F: Files>(alloc: Global, files: &mut F, path: &str, bytes: &[u
     }
 }
 
-#[test]
-fn named_calls_and_missing_files_fail(rt: HostRuntime) -> Result<(), Fail> {
-    let alloc = rt.alloc();
+/// Two files, of which the first was added twice. The third and the fifth call fail.
+fn two_files(alloc: Global) -> Result<MemFiles, Fail> {
     let mut files = MemFiles::new(alloc)?;
     files.add("a", b"one")?;
     files.add("b", b"three")?;
     files.add("a", b"two")?;
     files.fail_at(3)?;
     files.fail_at(5)?;
-    let reads: [(&str, usize, Result<&[u8], FileStop>, u64); 6] = [
-        ("a", 3, Ok(b"two"), 0),
-        ("a", 2, Err(FileStop::TooLong), 0),
-        ("a", 3, Err(FileStop::Failed), 1),
-        ("none", 3, Err(FileStop::Failed), 2),
-        ("b", 5, Err(FileStop::Failed), 3),
-        ("b", 5, Ok(b"three"), 3),
-    ];
-    for (path, limit, want, faults) in reads {
-        match files.read(alloc, path, limit) {
-            Ok(bytes) => assert_eq!(rt; Ok(bytes.as_slice()), want, "at {path}"),
-            Err(stop) => assert_eq!(rt; Err(stop), want, "at {path}"),
-        }
-        assert_eq!(rt; files.read_faults(), faults, "at {path}");
+    Ok(files)
+}
+
+/// A path, a limit, what the read gives, and the read faults behind it.
+type ReadRow<'a> = (&'a str, usize, Result<&'a [u8], FileStop>, u64);
+
+const READS: [ReadRow<'static>; 6] = [
+    ("a", 3, Ok(b"two"), 0),
+    ("a", 2, Err(FileStop::TooLong), 0),
+    ("a", 3, Err(FileStop::Failed), 1),
+    ("none", 3, Err(FileStop::Failed), 2),
+    ("b", 5, Err(FileStop::Failed), 3),
+    ("b", 5, Ok(b"three"), 3),
+];
+
+// Functions with few calls: what is known at each step of a test with many makes its proof long.
+fn is_read<F: Files>(alloc: Global, files: &mut F, row: &ReadRow<'_>) -> bool {
+    let (path, limit, want, _) = *row;
+    match files.read(alloc, path, limit) {
+        Ok(bytes) => Ok(bytes.as_slice()) == want,
+        Err(stop) => Err(stop) == want,
+    }
+}
+
+#[test]
+fn named_calls_and_missing_files_fail(rt: HostRuntime) -> Result<(), Fail> {
+    let mut files = two_files(rt.alloc())?;
+    for row in &READS {
+        assert!(rt; is_read(rt.alloc(), &mut files, row), "at {row:?}");
+        assert_eq!(rt; files.read_faults(), row.3, "at {row:?}");
     }
     assert_eq!(rt; files.write_faults(), 0);
     Ok(())
 }
 
-#[test]
-fn writes_change_one_file(rt: HostRuntime) -> Result<(), Fail> {
-    let alloc = rt.alloc();
+/// A path, the bytes that are written, what the write gives, and what `a` and `b` hold behind it.
+type WriteRow<'a> = (&'a str, &'a [u8], Result<(), WriteStop>, &'a [u8], &'a [u8]);
+
+/// Two reads follow each write, so that the second write is the fourth call.
+const WRITES: [WriteRow<'static>; 3] = [
+    ("b", b"new", Ok(()), b"one", b"new"),
+    ("a", b"lost", Err(WriteStop::Failed), b"one", b"new"),
+    ("a", b"now", Ok(()), b"now", b"new"),
+];
+
+/// One file. The fourth call fails.
+fn one_file(alloc: Global) -> Result<MemFiles, Fail> {
     let mut files = MemFiles::new(alloc)?;
     files.add("a", b"one")?;
-    files.fail_at(2)?;
-    assert_eq!(rt; files.write("b", b"new"), Ok(()));
-    assert_eq!(rt; files.write("a", b"lost"), Err(WriteStop::Failed));
-    assert_eq!(rt; files.write_faults(), 1);
-    assert_eq!(rt; files.read_faults(), 0);
-    assert_eq!(rt; files.read(alloc, "a", 9)?.as_slice(), b"one".as_slice());
-    assert_eq!(rt; files.read(alloc, "b", 9)?.as_slice(), b"new".as_slice());
-    assert_eq!(rt; files.write("a", b"now"), Ok(()));
-    assert_eq!(rt; files.read(alloc, "a", 9)?.as_slice(), b"now".as_slice());
-    Ok(())
+    files.fail_at(4)?;
+    Ok(files)
+}
+
+fn holds<F: Files>(alloc: Global, files: &mut F, path: &str, bytes: &[u8]) -> bool {
+    is_read(alloc, files, &(path, bytes.len(), Ok(bytes), 0))
+}
+
+fn is_written<F: Files>(alloc: Global, files: &mut F, row: &WriteRow<'_>) -> bool {
+    let (path, bytes, want, a, b) = *row;
+    files.write(path, bytes) == want && holds(alloc, files, "a", a) && holds(alloc, files, "b", b)
 }
 
 #[test]
-fn named_puts_and_puts_past_the_room_fail(rt: HostRuntime) -> Result<(), Fail> {
-    let alloc = rt.alloc();
+fn writes_change_one_file(rt: HostRuntime) -> Result<(), Fail> {
+    let mut files = one_file(rt.alloc())?;
+    for row in &WRITES {
+        assert!(rt; is_written(rt.alloc(), &mut files, row), "at {row:?}");
+    }
+    assert_eq!(rt; files.write_faults(), 1);
+    assert_eq!(rt; files.read_faults(), 0);
+    Ok(())
+}
+
+/// A sink of which the second, the third and the sixth put fail.
+fn failing_sink(alloc: Global) -> Result<MemSink, Fail> {
     let mut sink = MemSink::new(alloc, 10)?;
     sink.fail_at(2, 1)?;
     sink.fail_at(2, 3)?;
     sink.fail_at(3, 9)?;
     sink.fail_at(6, 5)?;
-    let puts: [(&[u8], Result<(), Failed>, &[u8], u64); 7] = [
-        (b"abc", Ok(()), b"abc", 0),
-        (b"def", Err(Failed), b"abcd", 1),
-        (b"gh", Err(Failed), b"abcdgh", 2),
-        (b"ijk", Ok(()), b"abcdghijk", 2),
-        (b"lmn", Err(Failed), b"abcdghijkl", 3),
-        (b"op", Err(Failed), b"abcdghijkl", 4),
-        (b"", Ok(()), b"abcdghijkl", 4),
-    ];
-    for (piece, want, bytes, faults) in puts {
+    Ok(sink)
+}
+
+/// A piece, what its put gives, and the bytes and the faults behind it.
+const PUTS: [(&[u8], Result<(), Failed>, &[u8], u64); 7] = [
+    (b"abc", Ok(()), b"abc", 0),
+    (b"def", Err(Failed), b"abcd", 1),
+    (b"gh", Err(Failed), b"abcdgh", 2),
+    (b"ijk", Ok(()), b"abcdghijk", 2),
+    (b"lmn", Err(Failed), b"abcdghijkl", 3),
+    (b"op", Err(Failed), b"abcdghijkl", 4),
+    (b"", Ok(()), b"abcdghijkl", 4),
+];
+
+#[test]
+fn named_puts_and_puts_past_the_room_fail(rt: HostRuntime) -> Result<(), Fail> {
+    let mut sink = failing_sink(rt.alloc())?;
+    for row in &PUTS {
+        let (piece, want, bytes, faults) = *row;
         assert_eq!(rt; sink.put(piece), want);
         assert_eq!(rt; sink.bytes(), bytes);
         assert_eq!(rt; sink.faults(), faults);
@@ -137,57 +181,63 @@ fn named_puts_and_puts_past_the_room_fail(rt: HostRuntime) -> Result<(), Fail> {
     Ok(())
 }
 
-#[test]
-fn callers_hand_faults_on(rt: HostRuntime) -> Result<(), Fail> {
-    let alloc = rt.alloc();
+/// A short file and a long one. The seventh call fails.
+fn short_and_long(alloc: Global) -> Result<MemFiles, Fail> {
     let mut files = MemFiles::new(alloc)?;
-    let mut out = MemSink::new(alloc, 7)?;
     files.add("short", b"abc")?;
     files.add("long", b"abcde")?;
-    assert_eq!(rt;
-        put_twice(alloc, &mut files, &mut out, "none"),
-        Outcome::ReadFault
-    );
-    assert_eq!(rt;
-        put_twice(alloc, &mut files, &mut out, "long"),
-        Outcome::TooLong
-    );
-    assert_eq!(rt;
-        put_twice(alloc, &mut files, &mut out, "short"),
-        Outcome::Done
-    );
-    assert_eq!(rt;
-        put_twice(alloc, &mut files, &mut out, "short"),
-        Outcome::WriteFault
-    );
-    assert_eq!(rt; out.bytes(), b"abcabca".as_slice());
-    assert_eq!(rt;
-        write_and_read(alloc, &mut files, "new", b"abcd"),
-        Outcome::Done
-    );
     files.fail_at(7)?;
-    assert_eq!(rt;
-        write_and_read(alloc, &mut files, "new", b"abcd"),
-        Outcome::WriteFault
-    );
+    Ok(files)
+}
+
+/// A file, and what comes of putting it twice.
+const PUT_TWICE: [(&str, Outcome); 4] = [
+    ("none", Outcome::ReadFault),
+    ("long", Outcome::TooLong),
+    ("short", Outcome::Done),
+    ("short", Outcome::WriteFault),
+];
+
+#[test]
+fn callers_hand_faults_on(rt: HostRuntime) -> Result<(), Fail> {
+    let mut files = short_and_long(rt.alloc())?;
+    let mut out = MemSink::new(rt.alloc(), 7)?;
+    for row in &PUT_TWICE {
+        let put = put_twice(rt.alloc(), &mut files, &mut out, row.0);
+        assert_eq!(rt; put, row.1);
+    }
+    assert_eq!(rt; out.bytes(), b"abcabca".as_slice());
+    for want in [Outcome::Done, Outcome::WriteFault] {
+        let written = write_and_read(rt.alloc(), &mut files, "new", b"abcd");
+        assert_eq!(rt; written, want);
+    }
     Ok(())
+}
+
+/// What the reads of a file of 20,000 bytes and of one that isn't there give.
+const SYSTEM_READS: [(&str, usize, Option<FileStop>); 3] = [
+    ("f", 20_000, None),
+    ("f", 19_999, Some(FileStop::TooLong)),
+    ("none", 9, Some(FileStop::Failed)),
+];
+
+fn read_stop<F: Files>(alloc: Global, files: &mut F, path: &str, limit: usize) -> Option<FileStop> {
+    match files.read(alloc, path, limit) {
+        Ok(_) => None,
+        Err(stop) => Some(stop),
+    }
 }
 
 #[test]
 fn files_of_the_system(rt: HostRuntime) -> Result<(), Fail> {
-    let alloc = rt.alloc();
-    let bytes = vec![in alloc; 7u8; 20_000]?;
+    let bytes = vec![in rt.alloc(); 7u8; 20_000]?;
     let mut files = HostFiles::new(&rt);
     assert_eq!(rt; files.write("f", &bytes), Ok(()));
-    assert_eq!(rt;
-        files.read(alloc, "f", 20_000)?.as_slice(),
-        bytes.as_slice()
-    );
-    assert_eq!(rt;
-        files.read(alloc, "f", 19_999).err(),
-        Some(FileStop::TooLong)
-    );
-    assert_eq!(rt; files.read(alloc, "none", 9).err(), Some(FileStop::Failed));
+    assert!(rt; holds(rt.alloc(), &mut files, "f", &bytes));
+    for row in &SYSTEM_READS {
+        let stop = read_stop(rt.alloc(), &mut files, row.0, row.1);
+        assert_eq!(rt; stop, row.2);
+    }
     assert_eq!(rt; files.write("none/f", b"0"), Err(WriteStop::Failed));
     assert_eq!(rt; files.read_faults(), 1);
     assert_eq!(rt; files.write_faults(), 1);

@@ -209,12 +209,22 @@ const SPELLED: [(&str, &str); 3] = [
     ),
 ];
 
+// What is read of a source, spelled. (A program is held by functions with few exits, since each drops the whole tree.)
+fn spelled_source(alloc: Global, source: &str) -> Result<Items<Wanted>, Fail> {
+    let program = read(alloc, source)?;
+    Ok(spelled(alloc, &program)?)
+}
+
+fn is_spelled(alloc: Global, source: &str, wanted: &str) -> Result<bool, Fail> {
+    let terminals = spelled_source(alloc, source)?;
+    let text = shown(alloc, terminals.as_slice())?;
+    Ok(text.as_str() == wanted)
+}
+
 // The first source that is spelled otherwise.
 fn differs<'a>(alloc: Global, rows: &'a [(&str, &str)]) -> Result<Option<&'a str>, Fail> {
     for (source, wanted) in rows {
-        let program = read(alloc, source)?;
-        let terminals = spelled(alloc, &program)?;
-        if shown(alloc, terminals.as_slice())?.as_str() != *wanted {
+        if !is_spelled(alloc, source, wanted)? {
             return Ok(Some(source));
         }
     }
@@ -228,35 +238,59 @@ fn programs_are_spelled_with_their_lines(rt: HostRuntime) -> Result<(), Fail> {
     Ok(())
 }
 
+// Whether the expressions that are grouped to the left and to the right are well-formed.
+fn left_judged(alloc: Global) -> Result<bool, NoMemory> {
+    let left = left_first(alloc)?;
+    Ok(well_formed_expr(left.get()))
+}
+
+fn right_judged(alloc: Global) -> Result<bool, NoMemory> {
+    let right = right_first(alloc)?;
+    Ok(well_formed_expr(right.get()))
+}
+
+fn left_text(alloc: Global) -> Result<String, NoMemory> {
+    let left = left_first(alloc)?;
+    expr_text(alloc, left.get())
+}
+
 #[test]
 fn operands_bind_to_the_left(rt: HostRuntime) -> Result<(), Fail> {
-    let alloc = rt.alloc();
-    let left = left_first(alloc)?;
-    assert!(rt; well_formed_expr(left.get()));
-    let right = right_first(alloc)?;
-    assert!(rt; !well_formed_expr(right.get()));
-    let text = expr_text(alloc, left.get())?;
+    assert!(rt; left_judged(rt.alloc())?);
+    assert!(rt; !right_judged(rt.alloc())?);
+    let text = left_text(rt.alloc())?;
     assert_eq!(rt; text.as_str(), "1@1 -@1 2@1 -@1 3@1 ");
     Ok(())
 }
 
+fn chain_judged(alloc: Global) -> Result<bool, NoMemory> {
+    let chain = chain(alloc)?;
+    Ok(well_formed_stmt(chain.get()))
+}
+
+fn dangling_judged(alloc: Global) -> Result<bool, NoMemory> {
+    let dangling = dangling(alloc)?;
+    Ok(well_formed_stmt(dangling.get()))
+}
+
 #[test]
 fn an_else_belongs_to_the_nearest_if(rt: HostRuntime) -> Result<(), Fail> {
-    let alloc = rt.alloc();
-    let chain = chain(alloc)?;
-    assert!(rt; well_formed_stmt(chain.get()));
-    let dangling = dangling(alloc)?;
-    assert!(rt; !well_formed_stmt(dangling.get()));
+    assert!(rt; chain_judged(rt.alloc())?);
+    assert!(rt; !dangling_judged(rt.alloc())?);
     Ok(())
 }
 
 const NAMES: [(&str, bool); 4] = [("f", true), ("while", false), ("int", false), ("2f", false)];
 
+fn judged(alloc: Global, name: &str) -> Result<bool, NoMemory> {
+    let program = named(alloc, name)?;
+    well_formed(alloc, &program)
+}
+
 // The first name with which a function is judged otherwise.
 fn misjudged<'a>(alloc: Global, rows: &'a [(&str, bool)]) -> Result<Option<&'a str>, NoMemory> {
     for (name, wanted) in rows {
-        let program = named(alloc, name)?;
-        if well_formed(alloc, &program)? != *wanted {
+        if judged(alloc, name)? != *wanted {
             return Ok(Some(name));
         }
     }

@@ -9,6 +9,7 @@ use cl_plain::wanted::{Want, Wanted};
 use cl_terminals::terminals::terminals;
 use cl_tree::grammar::{Sign, Terminal};
 use cl_tree::token::Token;
+use sqlite_items::Items;
 use std::alloc::{AllocError, Global};
 use std::test::Fail;
 
@@ -53,9 +54,13 @@ fn difference(
     Ok(None)
 }
 
-fn spelled_again(alloc: Global, tokens: &[Token]) -> Result<Option<usize>, Fail> {
+fn spelled_tokens(alloc: Global, tokens: &[Token]) -> Result<Items<Wanted>, Fail> {
     let program = parse(alloc, tokens)?;
-    let wanted = spelled(alloc, &program)?;
+    Ok(spelled(alloc, &program)?)
+}
+
+fn spelled_again(alloc: Global, tokens: &[Token]) -> Result<Option<usize>, Fail> {
+    let wanted = spelled_tokens(alloc, tokens)?;
     let found = terminals(alloc, tokens)?;
     Ok(difference(alloc, wanted.as_slice(), found.as_slice())?)
 }
