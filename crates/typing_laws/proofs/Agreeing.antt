@@ -62,16 +62,16 @@ kept_by : (b : Bool) (x : Entry) (o p : Option Entry) → (b ≡ true → ⊥) �
 kept_by true x o p n h = absurd (n refl)
 kept_by false x o p n h = h
 
-found_bound : (names : Env) (name : Word) (e : Entry) → meaning names name ≡ Some e → is_bound names name ≡ true
+pub found_bound : (names : Env) (name : Word) (e : Entry) → meaning names name ≡ Some e → is_bound names name ≡ true
 unfolding is_bound
 found_bound names name e h = ap is_some h
 
-fresh_bound : (l b : Bool) (line : ℕ) → unless (not (l || b)) line ≡ [] → b ≡ true → ⊥
+pub fresh_bound : (l b : Bool) (line : ℕ) → unless (not (l || b)) line ≡ [] → b ≡ true → ⊥
 fresh_bound true b line e h = cc
 fresh_bound false true line e h = cc
 fresh_bound false false line e h = cc
 
-names_kept : (ds : List Declarator) (names : Env) (name : Word) (e : Entry) → names_twice names ds ≡ [] → meaning names name ≡ Some e → meaning (with_names ds names) name ≡ Some e
+pub names_kept : (ds : List Declarator) (names : Env) (name : Word) (e : Entry) → names_twice names ds ≡ [] → meaning names name ≡ Some e → meaning (with_names ds names) name ≡ Some e
 unfolding names_twice with_names meaning
 names_kept [] names name e h m = m
 names_kept (d ∷ ds) names name e h m =

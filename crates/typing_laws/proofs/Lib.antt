@@ -17,3 +17,8 @@ pub mod Counted
 pub mod Weights
 pub mod Limited
 pub mod Listing
+pub mod Alike
+pub mod SameStructs
+pub mod SameFunctions
+pub mod SameVariables
+pub mod Accepted

@@ -13,6 +13,7 @@ use Rattle.cl_typing.specs.Rules.{unless}
 use Rattle.cl_typing.specs.Scope.{Entry, function, Binding, binding, Env, Scoped, in_order, meaning, is_bound, is_library, bound, with_names, types_of, env_after, defined_after}
 use Rattle.cl_typing.specs.Twice.{name_twice, names_twice, act_twice, stmt_twice, body_twice, Declared, function_fits, item_twice, items_twice, twice}
 use Rattle.typing_laws.specs.Standing.{OneOf, Level, outermost, level_after, AmongItems, ItemStands, Spot, body_spot, declares, act_declares, spot_after, AmongStmts, PartOf, Initialises, Evaluates, BodyHas, InBody, ItemEvaluates, Stands}
+use Rattle.typing_laws.specs.Named.{NoLibrary}
 use Rattle.typing_laws.proofs.Lists.{none_of, holds, both, not_false, same_word}
 use Rattle.typing_laws.proofs.Levels.{twice_parts, stmt_twice_is}
 use Rattle.typing_laws.proofs.Kept.{AllKeep, names_keep, initialises_keep, among_keeps, stands_all, stands_keeps, evaluates_keeps}
@@ -31,9 +32,6 @@ names_fresh scope (c ∷ ds) e d (inl o) = ap (λ (w : Declarator). is_library w
 names_fresh scope (c ∷ ds) e d (inr o) = names_fresh (bound c ∷ scope) ds (none_of (name_twice scope c) _ e).1 d o
 
 -- ---- names of the library
-
-abbrev pub NoLibrary : Env → Type 0
-NoLibrary names = (name : Word) → is_library name ≡ true → meaning names name ≡ None
 
 other_name : (b : Bool) (x : Entry) (o : Option Entry) → b ≡ false → o ≡ None → (if b then Some x else o) ≡ None
 other_name true x o e h = absurd cc

@@ -73,7 +73,7 @@ module _ (program : Program) (once : twice program ≡ []) (known : unknown prog
   file_over : (i : Item) (level : Level) → ItemStands program i level → OverBase (env_after i level.names) level.names
   file_over i level h name r ps m = persist i level (program_once program once i level h) (program_right program right i level h) name r ps m
 
-  item_over : (i : Item) (level : Level) → ItemStands program i level → (x : Expr) (there : Env) → ItemEvaluates i level.names x there → OverBase (env_after i level.names) there
+  pub item_over : (i : Item) (level : Level) → ItemStands program i level → (x : Expr) (there : Env) → ItemEvaluates i level.names x there → OverBase (env_after i level.names) there
   item_over (item.Struct name members line) level h x there v = statement_over _ level.names x there v.0 v.1 v.2 v.3
   item_over (item.Variables d) level h x there v =
       initialises_keep (OverBase (env_after (item.Variables d) level.names)) d.names (all_over (env_after (item.Variables d) level.names) d.names) level.names

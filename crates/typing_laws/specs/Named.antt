@@ -1,5 +1,5 @@
 -- What names mean: the rules of names, as relations.
-use Rattle.std.specs.Prelude.{◌≡◌, List, Some, None, codes}
+use Rattle.std.specs.Prelude.{◌≡◌, List, true, Some, None, codes}
 use Rattle.cl_tree.specs.declared.tree.CType.{CType}
 use Rattle.cl_tree.specs.declared.tree.Expr.{Expr}
 use Rattle.cl_tree.specs.declared.tree.Node.{Node, Node-F}
@@ -10,7 +10,7 @@ use Rattle.cl_tree.specs.declared.tree.Item.{Item}
 use Rattle.cl_tree.specs.declared.tree.Item.TheVariants as item
 use Rattle.cl_tree.specs.declared.tree.Program.{Program}
 use Rattle.cl_tree.specs.Words.{Word}
-use Rattle.cl_typing.specs.Scope.{Field, Entry, variable, function, structure, Env, meaning, members_of, tag_of, types_of}
+use Rattle.cl_typing.specs.Scope.{Field, Entry, variable, function, structure, Env, meaning, is_library, members_of, tag_of, types_of}
 use Rattle.typing_laws.specs.Standing.{OneOf}
 
 -- the struct that a type names is known, with its members
@@ -40,6 +40,10 @@ Resolves program tags names (node.Variable name) = (t : CType) × (meaning names
 Resolves program tags names (node.Cast t e) = TagKnown tags t
 Resolves program tags names (node.Call name arguments) = Callee program names name
 Resolves program tags names _ = Unit {0}
+
+-- the names of the library's functions mean nothing else
+abbrev pub NoLibrary : Env → Type 0
+NoLibrary names = (name : Word) → is_library name ≡ true → meaning names name ≡ None
 
 -- the structs that a name's types name are known
 abbrev pub EntryKnown : Env → Entry → Type 0

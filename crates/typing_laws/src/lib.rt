@@ -2,6 +2,7 @@
 #![tactic(auto)]
 
 pub mod facts;
+pub mod meanings;
 pub mod names;
 pub mod places;
 pub mod sizes;
