@@ -2,23 +2,22 @@
 use Rattle.std.proofs.Common.{◌≡◌, ℕ, suc, ◌+◌, ◌≤◌, List, [], ◌∷◌, ◌++◌, length, false, true, ℤ, refl, ap, sym, ◌∙◌, append_assoc, arith, length-append, slice_get, Some}
 use Rattle.std.proofs.lemmas.List.{append-nil}
 use Rattle.byteorder.specs.Numbers.{length-bytes_high_first}
-use Rattle.cl_tree.specs.Arithmetic.{residue, width}
 use Rattle.cl_tree.specs.declared.kinds.IntKind.TheVariants.{I32}
 use Rattle.cl_tree.specs.declared.tree.CType.TheVariants.{outs-Integer}
 use Rattle.rpc_codec.specs.declared.frame.Header.{Header}
 use Rattle.rpc_codec.specs.declared.frame.TheConstants.{VALUES, BROKEN}
-use Rattle.rpc_codec.specs.Frames.{header_bytes, number_bytes}
+use Rattle.rpc_codec.specs.Frames.{header_bytes}
 use Rattle.cl_mean.specs.declared.checked.Checked.{Checked}
 use Rattle.cl_mean.specs.declared.checked.GedlRow.{GedlRow}
 use Rattle.cl_run.specs.declared.crossing.Content.TheVariants.{Values, Broken}
 use Rattle.cl_run.specs.declared.crossing.Crossing.{Crossing}
 use Rattle.cl_run.specs.FormCalls.{crossing, kind_of, with_crossing}
-use Rattle.cl_mean.specs.Journal.{mux_of, typ_of}
-use Rattle.cl_run.specs.FormJournal.{frame_bytes, frame_of, journal, journal_from, kinds_at, kinds_of, payload_bytes}
+use Rattle.cl_mean.specs.Journal.{frame_bytes, mux_of, payload_bytes, typ_of}
+use Rattle.cl_run.specs.FormJournal.{frame_of, journal, journal_from, kinds_at, kinds_of}
 use Rattle.hal_route.specs.Hal.{recorded}
 use Rattle.cl_run.specs.declared.running.Running.{Running}
 use Rattle.cl_run.specs.Runs.{IsServed}
-use Rattle.cl_run.specs.Steps.{Crosses, IsPaid, IsReady, Stands, header_of}
+use Rattle.cl_run.specs.Steps.{Crosses, IsPaid, IsReady, Stands, header_of, int_payload}
 use Rattle.cl_run.proofs.Rows.{TheRow, the_row}
 
 -- a header and its payload are a frame
@@ -91,8 +90,8 @@ unfolding mux_of kinds_at payload_bytes
 request_frame checked k turn row the = rw (the.rows, the.number, the.is.args) refl
 
 -- the frame of a reply
-reply_frame : (checked : Checked) (k turn : ℕ) (row : GedlRow) (n : ℤ) → TheRow checked k row → frame_bytes 1 (typ_of k true) turn VALUES (number_bytes n) ≡ frame_of checked.gedl.rows turn (crossing k true (Values (n ∷ [])))
-unfolding mux_of kinds_at kinds_of payload_bytes number_bytes residue width
+reply_frame : (checked : Checked) (k turn : ℕ) (row : GedlRow) (n : ℤ) → TheRow checked k row → frame_bytes 1 (typ_of k true) turn VALUES (int_payload n) ≡ frame_of checked.gedl.rows turn (crossing k true (Values (n ∷ [])))
+unfolding mux_of kinds_at kinds_of payload_bytes int_payload
 reply_frame checked k turn row n the = rw (the.rows, the.number, the.is.result, outs-Integer I32) refl
 
 broken_frame : (checked : Checked) (k turn : ℕ) (row : GedlRow) → TheRow checked k row → frame_bytes 1 (typ_of k true) turn BROKEN [] ≡ frame_of checked.gedl.rows turn (crossing k true Broken)
@@ -107,10 +106,10 @@ pub broken_crosses : (checked : Checked) (k : ℕ) (row : GedlRow) (before after
 broken_crosses checked k row before after served at stands paid state hal =
     crosses checked _ (header_of before.hal k true BROKEN 0) [] before after stands paid refl refl (broken_frame checked k (before.hal.frames + 1) row (the_row checked k row served at)) state (hal ∙ ap (recorded before.hal) (sym (append-nil _)))
 
-pub reply_crosses : (checked : Checked) (k : ℕ) (row : GedlRow) (n : ℤ) (before after : Running) → IsServed checked → slice_get checked.gedl.rows k ≡ Some row → Stands checked before → IsPaid checked 29 before → after.state ≡ with_crossing before.state (crossing k true (Values (n ∷ []))) → after.hal ≡ recorded before.hal (header_bytes (header_of before.hal k true VALUES 4) ++ number_bytes n) → Crosses checked before after (crossing k true (Values (n ∷ []))) 29
-unfolding number_bytes
+pub reply_crosses : (checked : Checked) (k : ℕ) (row : GedlRow) (n : ℤ) (before after : Running) → IsServed checked → slice_get checked.gedl.rows k ≡ Some row → Stands checked before → IsPaid checked 29 before → after.state ≡ with_crossing before.state (crossing k true (Values (n ∷ []))) → after.hal ≡ recorded before.hal (header_bytes (header_of before.hal k true VALUES 4) ++ int_payload n) → Crosses checked before after (crossing k true (Values (n ∷ []))) 29
+unfolding int_payload payload_bytes
 reply_crosses checked k row n before after served at stands paid state hal =
-    crosses checked _ (header_of before.hal k true VALUES 4) (number_bytes n) before after stands paid refl refl (reply_frame checked k (before.hal.frames + 1) row n (the_row checked k row served at)) state hal
+    crosses checked _ (header_of before.hal k true VALUES 4) (int_payload n) before after stands paid refl refl (reply_frame checked k (before.hal.frames + 1) row n (the_row checked k row served at)) state hal
 
 -- a reply has an `int`
 pub int_kind : (checked : Checked) (k : ℕ) (row : GedlRow) → IsServed checked → slice_get checked.gedl.rows k ≡ Some row → kind_of row.result ≡ I32

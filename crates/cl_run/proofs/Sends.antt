@@ -3,10 +3,15 @@ use Rattle.std.proofs.Common.{◌≡◌, ℕ, ◌+◌, ◌-◌, ◌≤◌, ◌<�
 use Rattle.std.proofs.lemmas.List.{append-nil}
 use Rattle.rpc_codec.specs.declared.frame.Header.{Header}
 use Rattle.rpc_codec.specs.declared.frame.TheConstants.{VALUES, BROKEN, STOP}
-use Rattle.rpc_codec.specs.Frames.{header_bytes, number_bytes}
+use Rattle.rpc_codec.specs.Frames.{header_bytes}
 use Rattle.cl_mean.specs.declared.checked.Checked.{Checked}
 use Rattle.cl_mean.specs.declared.checked.GedlRow.{GedlRow}
-use Rattle.cl_mean.specs.Journal.{mux_of}
+use Rattle.cl_mean.specs.Journal.{mux_of, payload_bytes}
+use Rattle.cl_mean.specs.LocalRun.{is_fitting}
+use Rattle.cl_mean.specs.Shape.{total_size}
+use Rattle.cl_tree.specs.declared.kinds.IntKind.{IntKind}
+use Rattle.cl_tree.specs.declared.kinds.IntKind.TheVariants.{I32}
+use Rattle.cl_tree.specs.Arithmetic.{fits}
 use Rattle.hal_route.specs.declared.channel.Channel.{Channel}
 use Rattle.hal_route.specs.declared.uplink.BadUplink.{BadUplink}
 use Rattle.hal_route.specs.declared.uplink.Passed.{Passed}
@@ -15,7 +20,7 @@ use Rattle.hal_route.specs.Hal.{State, channel_of, channels_of, least_room, room
 use Rattle.hal_route.specs.Passing.{GoesTo, IsNext, IsReply, IsRequest, IsStop, reply_length}
 use Rattle.hal_route.specs.Take.{IsTaken}
 use Rattle.cl_run.specs.Runs.{IsServed}
-use Rattle.cl_run.specs.Steps.{IsReady, header_of}
+use Rattle.cl_run.specs.Steps.{IsReady, header_of, int_payload}
 use Rattle.cl_run.proofs.Rows.{TheRow, the_row}
 
 -- the laws of the router that say so
@@ -78,11 +83,22 @@ stop_goes law checked hal hal' frame outcome h ready is taken bytes =
     refl
     (record { bytes = bytes ∙ ap header_bytes is ∙ sym (append-nil _); fields = record { mux = omega arith; sec = omega arith; typ = omega arith; turn = (let r = ready.room in let f = ready.frames in omega arith); kind = omega arith; length = omega arith }; turn = refl; rest = refl; length = refl })
 
-pub number_long : (n : ℤ) → length (number_bytes n) ≡ 4
-unfolding number_bytes
+pub number_long : (n : ℤ) → length (int_payload n) ≡ 4
+unfolding int_payload payload_bytes
 number_long n = refl
 
 -- what stands behind a header
-pub payload_is : (bytes : List ℕ) (h : Header) (n : ℤ) → bytes ≡ header_bytes h ++ number_bytes n → take (length bytes - 25) (drop 25 bytes) ≡ number_bytes n
-unfolding header_bytes number_bytes
+pub payload_is : (bytes : List ℕ) (h : Header) (n : ℤ) → bytes ≡ header_bytes h ++ int_payload n → take (length bytes - 25) (drop 25 bytes) ≡ int_payload n
+unfolding header_bytes int_payload payload_bytes
 payload_is bytes h n is = rw is refl
+
+-- a layout of one `int`, and its payload
+pub int_payload_is : (layout : List IntKind) (n : ℤ) → layout ≡ I32 ∷ [] → payload_bytes layout (n ∷ []) ≡ int_payload n
+unfolding int_payload
+int_payload_is layout n is = ap (λ (kinds : List IntKind). payload_bytes kinds (n ∷ [])) is
+
+pub int_fits : (layout : List IntKind) (n : ℤ) → layout ≡ I32 ∷ [] → fits I32 n ≡ true → is_fitting layout (n ∷ []) ≡ true
+int_fits layout n is e = rw (is, e) refl
+
+pub int_size : (layout : List IntKind) → layout ≡ I32 ∷ [] → total_size layout ≡ 4
+int_size layout is = ap total_size is

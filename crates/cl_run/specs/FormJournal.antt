@@ -1,36 +1,14 @@
 -- The bytes of what crossed in the two small forms.
-use Rattle.std.specs.Prelude.{ℕ, zero, suc, ◌+◌, ◌*◌, Bool, true, false, ◌&&◌, ◌==◌, ℤ, List, [], ◌∷◌, ◌++◌, length, if◌then◌else◌}
+use Rattle.std.specs.Prelude.{ℕ, zero, suc, Bool, true, false, List, [], ◌∷◌, ◌++◌}
 use Rattle.std.specs.List.{flat_map}
-use Rattle.byteorder.specs.Endian.{big_bytes}
 use Rattle.cl_tree.specs.declared.kinds.IntKind.{IntKind}
-use Rattle.cl_tree.specs.declared.kinds.IntKind.TheVariants.{I8, U8, I16, U16, I32, U32, Long, ULong, LLong, ULLong}
 use Rattle.cl_tree.specs.declared.tree.CType.{CType, CType-F, out-CType}
 use Rattle.cl_tree.specs.declared.tree.CType.TheOpen as ctype
-use Rattle.cl_tree.specs.Arithmetic.{residue}
 use Rattle.cl_mean.specs.declared.checked.GedlRow.{GedlRow}
-use Rattle.cl_mean.specs.Journal.{mux_of, typ_of}
+use Rattle.cl_mean.specs.Journal.{frame_bytes, mux_of, payload_bytes, typ_of}
 use Rattle.cl_run.specs.declared.crossing.Content.{Content}
 use Rattle.cl_run.specs.declared.crossing.Content.TheVariants.{Values, Blocked, Broken}
 use Rattle.cl_run.specs.declared.crossing.Crossing.{Crossing}
-
--- how many bytes a number of a kind takes
-abbrev pub bytes_of : IntKind → ℕ
-bytes_of I8 = 1
-bytes_of U8 = 1
-bytes_of I16 = 2
-bytes_of U16 = 2
-bytes_of I32 = 4
-bytes_of U32 = 4
-bytes_of Long = 8
-bytes_of ULong = 8
-bytes_of LLong = 8
-bytes_of ULLong = 8
-
--- the numbers of a payload, each in the width of its kind
-unfoldable pub payload_bytes : List IntKind → List ℤ → List ℕ
-payload_bytes [] numbers = []
-payload_bytes (k ∷ ks) [] = []
-payload_bytes (k ∷ ks) (n ∷ ns) = big_bytes (bytes_of k) (residue k n) ++ payload_bytes ks ns
 
 -- the kinds of a type's numbers; structs and arrays come with their stage
 abbrev pub level_kinds : {A : Type 0} → CType-F A → List IntKind
@@ -60,11 +38,6 @@ abbrev pub content_bytes : List IntKind → Content → List ℕ
 content_bytes kinds (Values numbers) = payload_bytes kinds numbers
 content_bytes kinds Blocked = []
 content_bytes kinds Broken = []
-
--- a frame: mux and sec, which are one number here, typ, turn, kind, the length of the payload, and the payload
-unfoldable pub frame_bytes : ℕ → ℕ → ℕ → ℕ → List ℕ → List ℕ
-frame_bytes mux typ turn kind payload =
-    big_bytes 4 mux ++ (big_bytes 4 mux ++ (big_bytes 4 typ ++ (big_bytes 8 turn ++ (big_bytes 1 kind ++ (big_bytes 4 (length payload) ++ payload)))))
 
 -- the frame of a crossing, at its turn
 abbrev pub frame_of : List GedlRow → ℕ → Crossing → List ℕ

@@ -1,5 +1,6 @@
 -- What the runner says of a step of the meaning, and how a run stands between steps.
-use Rattle.std.specs.Prelude.{◌≡◌, ℕ, ◌+◌, ◌≤◌, Bool, length, Result, Ok, Err}
+use Rattle.std.specs.Prelude.{◌≡◌, ℕ, ◌+◌, ◌≤◌, Bool, ℤ, List, [], ◌∷◌, length, Result, Ok, Err}
+use Rattle.cl_tree.specs.declared.kinds.IntKind.TheVariants.{I32}
 use Rattle.cl_base.specs.declared.limits.TheConstants.{FRAME_COST}
 use Rattle.rpc_codec.specs.declared.frame.Header.{Header}
 use Rattle.cl_mean.specs.declared.checked.Checked.{Checked}
@@ -7,7 +8,7 @@ use Rattle.cl_run.specs.declared.crossing.Crossing.{Crossing}
 use Rattle.cl_run.specs.declared.state.State.{State}
 use Rattle.cl_run.specs.FormState.{Halt, cost_at}
 use Rattle.cl_run.specs.FormCalls.{with_crossing}
-use Rattle.cl_mean.specs.Journal.{typ_of}
+use Rattle.cl_mean.specs.Journal.{payload_bytes, typ_of}
 use Rattle.cl_run.specs.FormJournal.{journal}
 use Rattle.hal_route.specs.Hal.{State as HalState, channels_of}
 use Rattle.cl_run.specs.declared.stop.Stop.{Stop}
@@ -55,6 +56,10 @@ IsPaid checked bytes run = length run.hal.journal + bytes ≤ cost_at run.state.
 -- the header of a row's request or reply, which is the next frame; all rows are of one pair of levels so far
 abbrev pub header_of : HalState → ℕ → Bool → ℕ → ℕ → Header
 header_of hal k reply kind bytes = record { mux = 1; sec = 1; typ = typ_of k reply; turn = hal.frames + 1; kind = kind; length = bytes }
+
+-- the payload of one `int`
+unfoldable pub int_payload : ℤ → List ℕ
+int_payload n = payload_bytes (I32 ∷ []) (n ∷ [])
 
 -- a crossing went through the router, as a frame of so many bytes
 pub record Crosses (checked : Checked) (before after : Running) (c : Crossing) (bytes : ℕ) : Type 0 where

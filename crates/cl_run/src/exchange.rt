@@ -1,24 +1,29 @@
 //! The frames of calls, which go through the router.
 
-ghost use Rattle.std.specs.Prelude.{◌≡◌, ◌<◌, ◌≤◌, ◌+◌, ◌-◌, ◌/◌, ◌^◌, ◌++◌, ℤ, length, true, false, slice_get, Ok, Some};
+ghost use Rattle.std.specs.Prelude.{◌≡◌, ◌<◌, ◌≤◌, ◌+◌, ◌-◌, ◌/◌, ◌^◌, ◌∷◌, [], ◌++◌, ℤ, length, true, false, slice_get, IfOk, Ok, Some};
 ghost use Rattle.cl_tree.specs.Arithmetic.{fits};
 ghost use Rattle.cl_tree.specs.declared.kinds.IntKind.TheVariants.{I32};
 ghost use Rattle.cl_mean.specs.Journal.{typ_of};
-ghost use Rattle.rpc_codec.specs.Frames.{header_bytes, number_bytes, IsHeader};
+ghost use Rattle.rpc_codec.specs.Frames.{header_bytes, IsHeader};
 ghost use Rattle.rpc_codec.specs.declared.frame.Header.{Header as HeaderValue};
 ghost use Rattle.hal_route.specs.declared.uplink.Passed.TheVariants.{Stop};
 ghost use Rattle.hal_route.specs.Hal.{recorded};
 ghost use Rattle.hal_route.specs.Take.{IsTaken};
 ghost use Rattle.cl_run.specs.Runs.{IsServed};
-ghost use Rattle.cl_run.specs.Steps.{IsReady, header_of};
+ghost use Rattle.cl_run.specs.Steps.{IsReady, header_of, int_payload};
 
 use crate::calls::Route;
+use cl_base::limits::FRAME_BYTES;
+use cl_base::name::NoMemory;
 use cl_mean::checked::Checked;
+use cl_tree::kinds::IntKind;
 use hal_route::hal::Hal;
 use hal_route::laws::{reply_passes, request_passes, stop_passes};
 use hal_route::uplink::Passed;
 use rpc_codec::frame::{BROKEN, FrameBuf, HEADER_BYTES, Header, STOP, VALUES, one_header};
-use rpc_codec::payload::{get_i32, put_i32};
+use rpc_codec::layout::Layout;
+use rpc_codec::payload::{decode, encode_into};
+use std::alloc::Global;
 
 /// The number of the pair of levels that all rows are of so far.
 const PAIR: u32 = 1;
@@ -74,24 +79,36 @@ pub fn send_request(
     level
 }
 
+/// Puts the payload of one `int` behind what is held.
+fn put_int(layout: &Layout, value: i128, frame: &mut FrameBuf)
+    requires layout { layout.now ≡ I32 ∷ [] }
+    requires room { length frame.old + 4 ≤ FRAME_BYTES }
+    ensures bytes { frame.new ≡ frame.old ++ int_payload value }
+    ensures long { length frame.new ≡ length frame.old + 4 }
+{
+    encode_into(layout, &[value], frame);
+}
+
 /// Sends the reply of a row, with its number, from the callee.
 pub fn send_reply(
     checked: &Checked,
     route: &Route<'_>,
-    value: i32,
+    layout: &Layout,
+    value: i128,
     hal: &mut Hal,
     frame: &mut FrameBuf,
 )
     requires served { IsServed checked.now }
     requires row { slice_get checked.now.gedl.rows route.now.number ≡ Some route.now.row.now }
     requires ready { IsReady checked.now hal.old }
-    ensures journal { hal.new ≡ recorded hal.old (header_bytes (header_of hal.old route.now.number true VALUES 4) ++ number_bytes value) }
-    ensures bytes { frame.new ≡ header_bytes (header_of hal.old route.now.number true VALUES 4) ++ number_bytes value }
+    requires layout { layout.now ≡ I32 ∷ [] }
+    ensures journal { hal.new ≡ recorded hal.old (header_bytes (header_of hal.old route.now.number true VALUES 4) ++ int_payload value) }
+    ensures bytes { frame.new ≡ header_bytes (header_of hal.old route.now.number true VALUES 4) ++ int_payload value }
     ensures long { length frame.new ≡ HEADER_BYTES + 4 }
 {
     reply_passes();
     frame.set_header(header_of(hal, route.number, true, VALUES, 4));
-    put_i32(frame, value);
+    put_int(layout, value, frame);
     let Ok(Passed::To(_)) = hal.take(route.row.to, frame) else {
         unreachable!()
     };
@@ -144,13 +161,22 @@ pub fn asked_row(frame: &FrameBuf) -> u32
     }
 }
 
-/// The number of a reply.
-pub fn received(frame: &FrameBuf) -> i32
-    requires { length frame.now ≡ HEADER_BYTES + 4 }
-    ensures { (h : HeaderValue) (n : ℤ) → fits I32 n ≡ true → frame.now ≡ header_bytes h ++ number_bytes n → result ≡ n }
+/// The layout of a reply with one `int`.
+pub fn int_layout(alloc: Global) -> Result<Layout, NoMemory>
+    ensures { IfOk result (λ layout. layout ≡ I32 ∷ []) }
 {
-    match get_i32(&frame.bytes()[HEADER_BYTES..]) {
-        Some(value) => value,
-        None => unreachable!(),
+    Layout::from_kinds(vec![in alloc; IntKind::I32]?)
+}
+
+/// The number of a reply.
+pub fn received(layout: &Layout, frame: &FrameBuf) -> i128
+    requires layout { layout.now ≡ I32 ∷ [] }
+    requires long { length frame.now ≡ HEADER_BYTES + 4 }
+    ensures { (h : HeaderValue) (n : ℤ) → fits I32 n ≡ true → frame.now ≡ header_bytes h ++ int_payload n → result ≡ n }
+{
+    let mut values = [0];
+    if !decode(layout, &frame.bytes()[HEADER_BYTES..], &mut values) {
+        unreachable!()
     }
+    values[0]
 }

@@ -14,7 +14,7 @@ ghost use Rattle.cl_run.specs.Steps.{IsStep, IsPaid, Stands, Goes, Crosses, head
 
 use crate::calls::{Route, cost_of, kind_of, route_of};
 use crate::crossing::{Content, Crossing};
-use crate::exchange::{asked_row, received, send_broken, send_reply, send_request};
+use crate::exchange::{asked_row, int_layout, received, send_broken, send_reply, send_request};
 use crate::far::serve;
 use crate::running::Running;
 use crate::state::{Context, State};
@@ -79,12 +79,12 @@ fn ask(
 
 /// What a reply of a row makes of a number.
 #[tactic(auto, unfolding(cl_tree::specs::Arithmetic::fits, cl_tree::specs::Arithmetic::least, cl_tree::specs::Arithmetic::beyond, cl_tree::specs::Arithmetic::is_signed, cl_tree::specs::Arithmetic::width))]
-fn replied(row: &GedlRow, n: i128) -> i32
+fn replied(row: &GedlRow, n: i128) -> i128
     requires { kind_of row.now.result ≡ I32 }
     ensures value { result ≡ replied row.now n }
     ensures fits { fits I32 result ≡ true }
 {
-    convert(kind_of(&row.result), n) as i32
+    convert(kind_of(&row.result), n)
 }
 
 /// The reply of a row crosses, with the number that the function gave. The result is the number that came.
@@ -104,8 +104,9 @@ fn answer(
     ensures err { OnErr result (Goes checked.now running.old running.new) }
 {
     let value = replied(route.row, n);
+    let layout = int_layout(alloc)?;
     let mut values = Items::new(alloc);
-    values.push(i128::from(value))?;
+    values.push(value)?;
     let content = Content::Values(values);
     let row = route.number;
     let reply = true;
@@ -114,8 +115,15 @@ fn answer(
         reply,
         content,
     })?;
-    send_reply(checked, route, value, &mut running.hal, &mut running.frame);
-    Ok(i128::from(received(&running.frame)))
+    send_reply(
+        checked,
+        route,
+        &layout,
+        value,
+        &mut running.hal,
+        &mut running.frame,
+    );
+    Ok(received(&layout, &running.frame))
 }
 
 /// The broken reply of a row crosses.

@@ -1,3 +1,6 @@
 mod Bytes
 mod Fields
-mod Numbers
+pub mod Payloads
+mod Ranges
+mod Signatures
+pub mod Structs

@@ -1,8 +1,6 @@
 -- The bytes of a frame: a header of six numbers and then a payload, all big endian.
-use Rattle.std.specs.Prelude.{◌≡◌, ℕ, ◌^◌, ◌<◌, ◌≤◌, List, ◌++◌, length, take, ℤ}
+use Rattle.std.specs.Prelude.{◌≡◌, ℕ, ◌^◌, ◌<◌, ◌≤◌, List, ◌++◌, length, take}
 use Rattle.byteorder.specs.Endian.{big_bytes}
-use Rattle.cl_tree.specs.Arithmetic.{residue}
-use Rattle.cl_tree.specs.declared.kinds.IntKind.TheVariants.{U32}
 use Rattle.rpc_codec.specs.declared.frame.Header.{Header}
 use Rattle.rpc_codec.specs.declared.frame.TheConstants.{HEADER_BYTES}
 
@@ -25,7 +23,3 @@ pub record IsHeader (bytes : List ℕ) (header : Header) : Type 0 where
   pub long : HEADER_BYTES ≤ length bytes
   pub front : take HEADER_BYTES bytes ≡ header_bytes header
   pub fields : IsInRange header
-
--- the bytes of a signed number of 32 bits: two's complement, most significant first
-unfoldable pub number_bytes : ℤ → List ℕ
-number_bytes n = big_bytes 4 (residue U32 n)

@@ -2,4 +2,8 @@
 #![tactic(auto)]
 
 pub mod frame;
+mod kinds;
+pub mod laws;
+pub mod layout;
 pub mod payload;
+mod signature;

@@ -1,6 +1,8 @@
 use cl_base::limits::FRAME_BYTES;
+use cl_tree::kinds::IntKind;
 use rpc_codec::frame::{FrameBuf, HEADER_BYTES, Header};
-use rpc_codec::payload::{get_i32, put_i32};
+use rpc_codec::layout::Layout;
+use rpc_codec::payload::{decode, encode_into};
 use std::test::Fail;
 
 /// The request of a call without arguments.
@@ -42,17 +44,20 @@ fn headers_and_numbers_have_these_bytes(rt: HostRuntime) -> Result<(), Fail> {
         assert_eq!(rt; buf.bytes(), bytes);
         assert_eq!(rt; buf.header(), Some(header));
     }
-    let numbers: [(i32, &[u8]); 3] = [
+    let layout = Layout::from_kinds(vec![in rt.alloc(); IntKind::I32]?)?;
+    let numbers: [(i128, &[u8]); 3] = [
         (1, b"\0\0\0\x01"),
         (-1, b"\xff\xff\xff\xff"),
         (-2147483648, b"\x80\0\0\0"),
     ];
     for (number, bytes) in numbers {
         buf.set_header(REPLY);
-        put_i32(&mut buf, number);
+        encode_into(&layout, &[number], &mut buf);
         assert_eq!(rt; &buf.bytes()[HEADER_BYTES..], bytes);
         assert_eq!(rt; buf.header(), Some(REPLY));
-        assert_eq!(rt; get_i32(bytes), Some(number));
+        let mut values = [7];
+        assert!(rt; decode(&layout, bytes, &mut values));
+        assert_eq!(rt; values, [number]);
     }
     Ok(())
 }
@@ -75,7 +80,10 @@ fn lengths_are_bounds(rt: HostRuntime) -> Result<(), Fail> {
         length: 4294967295,
     };
     assert_eq!(rt; buf.header(), Some(all_ones));
-    assert_eq!(rt; get_i32(&ones[..3]), None);
-    assert_eq!(rt; get_i32(&ones[..5]), None);
+    let layout = Layout::from_kinds(vec![in rt.alloc(); IntKind::I32]?)?;
+    let mut values = [7];
+    assert!(rt; !decode(&layout, &ones[..3], &mut values));
+    assert!(rt; !decode(&layout, &ones[..5], &mut values));
+    assert_eq!(rt; values, [7]);
     Ok(())
 }

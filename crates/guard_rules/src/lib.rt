@@ -1,0 +1,5 @@
+//! Policies, and guards: what judges the frames that cross between levels.
+#![tactic(auto)]
+
+pub mod guards;
+pub mod laws;

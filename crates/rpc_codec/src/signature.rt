@@ -1,0 +1,121 @@
+//! The result and the parameters of a function.
+
+ghost use Rattle.std.specs.Prelude.{◌≡◌, ◌++◌, OnOk, MatchOption, Some, None};
+ghost use Rattle.cl_mean.specs.Journal.{kinds_by};
+ghost use Rattle.cl_mean.specs.Shape.{shape_of, structs_of};
+ghost use Rattle.cl_mean.specs.Source.{function_at, is_counted, label_at, label_of_function, source_of, taints_of};
+ghost use Rattle.rpc_codec.specs.Signature.{array_kinds, if_array, item_signature, signature_kinds, signature_of};
+
+use crate::kinds::{push_all, push_type};
+use cl_base::name::NoMemory;
+use cl_mean::checked::Checked;
+use cl_mean::labels::LabelFact;
+use cl_tree::kinds::IntKind;
+use cl_tree::tree::{CType, Declarator, Item};
+
+/// The result and the parameters of a function.
+#[derive(Clone, Copy)]
+struct Signature<'a> {
+    result: &'a CType,
+    params: &'a [Declarator],
+}
+
+/// The label of a function.
+fn label_of(checked: &Checked, function: u32) -> Option<&LabelFact>
+    ensures { MatchOption result (label_at checked.now.labels.labels (label_of_function checked.now function) ≡ None) (λ l. label_at checked.now.labels.labels (label_of_function checked.now function) ≡ Some l.now) }
+{
+    match checked.labels.on_functions.get(function as usize) {
+        Some(Some(label)) => checked.labels.labels.get(*label as usize),
+        Some(None) => None,
+        None => None,
+    }
+}
+
+/// Whether an annotated function has labels for each of its parameters.
+fn is_counted(checked: &Checked, function: u32, params: &[Declarator]) -> bool
+    ensures { result ≡ is_counted (taints_of (label_at checked.now.labels.labels (label_of_function checked.now function))) params.now }
+{
+    match label_of(checked, function) {
+        Some(
+            LabelFact {
+                taints: Some(taints),
+                ..
+            },
+        ) => taints.args.len() == params.len(),
+        _ => true,
+    }
+}
+
+/// The signature of a function, where this is an item that defines it.
+fn item_signature<'a>(checked: &Checked, function: u32, item: &'a Item) -> Option<Signature<'a>>
+    ensures { MatchOption result (item_signature (label_at checked.now.labels.labels (label_of_function checked.now function)) item.now ≡ None) (λ s. item_signature (label_at checked.now.labels.labels (label_of_function checked.now function)) item.now ≡ Some (record { result = s.result.now; params = s.params.now })) }
+{
+    let Item::Function {
+        result,
+        params,
+        body: Some(_),
+        ..
+    } = item
+    else {
+        return None;
+    };
+    let params = params.as_slice();
+    is_counted(checked, function, params).then_some(Signature { result, params })
+}
+
+/// The signature of a function that is defined.
+fn signature_of(checked: &Checked, function: u32) -> Option<Signature>
+    ensures { MatchOption result (signature_of checked.now function ≡ None) (λ s. signature_of checked.now function ≡ Some (record { result = s.result.now; params = s.params.now })) }
+{
+    let fact = checked.typed.functions.get(function as usize)?;
+    let item = checked.typed.program.items.get(fact.item as usize)?;
+    item_signature(checked, function, item)
+}
+
+/// Adds the integers of a parameter if it is an array.
+fn push_if_array(
+    items: &[Item],
+    param: &Declarator,
+    kinds: &mut Vec<IntKind>,
+) -> Result<(), NoMemory>
+    ensures { OnOk result (kinds.new.items ≡ kinds.old.items ++ if_array (shape_of (structs_of items.now) param.now.ctype)) }
+{
+    match &param.ctype {
+        CType::Array(..) => push_type(items, &param.ctype, kinds),
+        _ => Ok(()),
+    }
+}
+
+/// Adds the integers of the parameters that are arrays.
+fn push_arrays(
+    items: &[Item],
+    params: &[Declarator],
+    kinds: &mut Vec<IntKind>,
+) -> Result<(), NoMemory>
+    ensures { OnOk result (kinds.new.items ≡ kinds.old.items ++ array_kinds (structs_of items.now) params.now) }
+{
+    for param in params {
+        push_if_array(items, param, kinds)?;
+    }
+    Ok(())
+}
+
+/// Adds the integers of a function's request, or of its reply.
+pub(crate) fn push_payload(
+    checked: &Checked,
+    function: u32,
+    reply: bool,
+    kinds: &mut Vec<IntKind>,
+) -> Result<(), NoMemory>
+    ensures { OnOk result (kinds.new.items ≡ kinds.old.items ++ kinds_by (function_at (source_of checked.now).functions function) reply) }
+{
+    let items = checked.typed.program.items.as_slice();
+    let Some(signature) = signature_of(checked, function) else {
+        return Ok(());
+    };
+    if !reply {
+        return push_all(items, signature.params, kinds);
+    }
+    push_type(items, signature.result, kinds)?;
+    push_arrays(items, signature.params, kinds)
+}
