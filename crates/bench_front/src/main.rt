@@ -20,7 +20,7 @@ use cl_twice::items::look_program as look_for_second;
 use cl_typing::sought::Sought;
 use cl_unknown::items::look_program as look_for_unknown;
 use cl_wrong::items::look_program as look_for_types;
-use std::thread::{Builder, Promise};
+use std::thread::{Builder, Promise, Threads};
 use std::time::Instant;
 use std::{env, io};
 
@@ -103,24 +103,24 @@ impl Promise<bool> for Any {
 
 /// Measures on a thread with a large stack, or on the caller's own where none can be started. False where the times
 /// could not be written.
-fn measured_apart(rt: HostRuntime, source: Vec<u8>) -> bool
+fn measured_apart(threads: &impl Threads, rt: HostRuntime, source: Vec<u8>) -> bool
     requires { vec_len source ≤ 1048576 }
 {
     let builder = Builder::new().stack_size(STACK_BYTES);
     let run = move || measured(&rt, source.as_slice()).is_ok();
-    match builder.spawn_with(&rt, Any, run) {
-        Ok(thread) => thread.join(&rt),
+    match builder.spawn_with(threads, Any, run) {
+        Ok(thread) => thread.join(threads),
         Err(refused) => (refused.value)(),
     }
 }
 
-fn report(rt: HostRuntime, path: &str) -> io::Result<()> {
+fn report(threads: &impl Threads, rt: HostRuntime, path: &str) -> io::Result<()> {
     let mut files = HostFiles::new(&rt);
     let Ok(source) = files.read(rt.alloc(), path, SOURCE_BYTES) else {
         return println!(rt; "{path}: not read");
     };
     print!(rt; "{path}:")?;
-    if !measured_apart(rt, source) {
+    if !measured_apart(threads, rt, source) {
         println!(rt; " not measured")?;
     }
     Ok(())
@@ -128,7 +128,7 @@ fn report(rt: HostRuntime, path: &str) -> io::Result<()> {
 
 fn main(rt: HostRuntime) -> io::Result<()> {
     for path in env::args(&rt)?.skip(1) {
-        report(rt, path.as_str())?;
+        report(&rt, rt, path.as_str())?;
     }
     Ok(())
 }

@@ -85,11 +85,18 @@ fn table(alloc: Global) -> Result<Law, AllocError> {
     Ok(Law { rules })
 }
 
+/// Whether a frame comes out as it must.
+fn is_right(guard: &mut dyn Guard, case: &Case) -> bool {
+    let (asked, sent, ruling, left) = *case;
+    let mut values = sent;
+    let given = guard.inspect(asked, &mut values);
+    given == ruling && values == left
+}
+
 /// Asks a guard one frame after the other. It says which of them comes out otherwise.
 fn first_wrong(guard: &mut dyn Guard, cases: &[Case]) -> Option<usize> {
-    for (place, (asked, sent, ruling, left)) in cases.iter().enumerate() {
-        let mut values = *sent;
-        if guard.inspect(*asked, &mut values) != *ruling || values != *left {
+    for (place, case) in cases.iter().enumerate() {
+        if !is_right(guard, case) {
             return Some(place);
         }
     }

@@ -59,7 +59,7 @@ fn ends_of_kinds_come_back(rt: HostRuntime) -> Result<(), Fail> {
     let mut buf = FrameBuf::open(rt.alloc())?;
     for (kind, least, greatest, bytes) in ENDS {
         let layout = Layout::from_kinds(vec![in rt.alloc(); kind, kind]?)?;
-        assert_eq!(rt; layout.length(), 2 * bytes);
+        assert_eq!(rt; layout.length() / 2, bytes);
         buf.set_bytes(b"");
         encode_into(&layout, &[least, greatest], &mut buf);
         let mut values = [7, 7];
