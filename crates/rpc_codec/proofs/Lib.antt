@@ -4,3 +4,4 @@ pub mod Payloads
 mod Ranges
 mod Signatures
 pub mod Structs
+pub mod Under

@@ -1,8 +1,7 @@
 -- The integers of a payload by the signature of its function.
-use Rattle.std.proofs.Common.{◌≡◌, ℕ, zero, suc, ◌+◌, ◌<◌, arith, eq-eqb, ne_eqb, ◌≢◌, List, [], ◌∷◌, ◌++◌, length, refl, sym, ap, subst, ◌∙◌, Bool, true, false, if◌then◌else◌, Option, Some, None, slice_get, slice_index_or, get_or, map, filter}
+use Rattle.std.proofs.Common.{◌≡◌, ℕ, zero, suc, ◌+◌, ◌<◌, arith, eq-eqb, ne_eqb, ◌≢◌, List, [], ◌∷◌, ◌++◌, length, refl, sym, ap, subst, ◌∙◌, Bool, true, false, if◌then◌else◌, Option, Some, None, slice_get, slice_index_or, get_or, map, filter, codes}
 use Rattle.std.specs.List.{flat_map}
 use Rattle.std.proofs.lemmas.Option.{none-some, same_Some}
-use Rattle.cl_tree.specs.declared.kinds.IntKind.{IntKind}
 use Rattle.cl_tree.specs.declared.tree.Declarator.{Declarator}
 use Rattle.cl_tree.specs.declared.tree.Item.{Item}
 use Rattle.cl_tree.specs.declared.tree.Item.TheVariants.{Struct, Variables, Function, Cle}
@@ -12,9 +11,13 @@ use Rattle.cl_mean.specs.declared.checked.GedlRow.{GedlRow}
 use Rattle.cl_mean.specs.declared.labels.LabelFact.{LabelFact}
 use Rattle.cl_mean.specs.declared.labels.Taints.{Taints}
 use Rattle.cl_mean.specs.Journal.{kinds_at, kinds_by}
-use Rattle.cl_mean.specs.Shape.{Shape, nothing, integer, struct, array, Structs, structs_of, shape_of, kinds_of, members_of, member_kinds}
+use Rattle.cl_mean.specs.Shape.{Shape, nothing, integer, struct, array, Structs, structs_of, shape_of, members_of}
 use Rattle.cl_mean.specs.Source.{Source, Static, Definition, array_members, definition_of, definitions_from, entries_of, function_at, if_counted, is_counted, is_owned_by, item_statics, label_at, label_of_function, level_of_function, lost_label, no_item, parameters_of, payload_of, request_members, source_of, statics_from, taints_of}
-use Rattle.rpc_codec.specs.Signature.{array_kinds, if_array, item_signature, signature_by, signature_kinds, signature_of}
+use Rattle.cl_tree.specs.Words.{Word}
+use Rattle.rpc_codec.proofs.Under.{kinds_are}
+use Rattle.rpc_codec.specs.declared.leaves.Leaf.{Leaf}
+use Rattle.rpc_codec.specs.Leaves.{behind, leads_to, leaves, member_leaves, payload_by}
+use Rattle.rpc_codec.specs.Signature.{array_leaves, if_array, item_signature, signature_by, signature_leaves, signature_of}
 
 -- ---- labels
 
@@ -54,19 +57,19 @@ label_lost checked k e = ap (λ (l : Option ℕ). label_at checked.labels.labels
 
 -- ---- payloads of a definition
 
-request_is : (structs : Structs) (taints : Option Taints) (k : ℕ) (ds : List Declarator) → member_kinds (request_members (parameters_of structs taints k ds)) ≡ member_kinds (members_of structs ds)
-request_is structs taints k [] = refl
-request_is structs taints k (d ∷ ds) = ap (λ (xs : List IntKind). kinds_of (shape_of structs d.ctype) ++ xs) (request_is structs taints (suc k) ds)
+request_is : (structs : Structs) (taints : Option Taints) (k : ℕ) (ds : List Declarator) (path : List Word) → member_leaves (request_members (parameters_of structs taints k ds)) true path ≡ member_leaves (members_of structs ds) true path
+request_is structs taints k [] path = refl
+request_is structs taints k (d ∷ ds) path = ap (λ (xs : List Leaf). leaves (shape_of structs d.ctype) (leads_to true path d.name) (behind path) ++ xs) (request_is structs taints (suc k) ds path)
 
-arrays_are : (structs : Structs) (taints : Option Taints) (k : ℕ) (ds : List Declarator) → member_kinds (array_members (parameters_of structs taints k ds)) ≡ array_kinds structs ds
-arrays_are structs taints k [] = refl
-arrays_are structs taints k (d ∷ ds) = by (shape_of structs d.ctype) refl (arrays_are structs taints (suc k) ds)
+arrays_are : (structs : Structs) (taints : Option Taints) (k : ℕ) (ds : List Declarator) (path : List Word) → member_leaves (array_members (parameters_of structs taints k ds)) true path ≡ array_leaves structs ds path
+arrays_are structs taints k [] path = refl
+arrays_are structs taints k (d ∷ ds) path = by (shape_of structs d.ctype) refl (arrays_are structs taints (suc k) ds path)
   where
-    by : (s : Shape) → shape_of structs d.ctype ≡ s → member_kinds (array_members (parameters_of structs taints (suc k) ds)) ≡ array_kinds structs ds → member_kinds (array_members (parameters_of structs taints k (d ∷ ds))) ≡ if_array (shape_of structs d.ctype) ++ array_kinds structs ds
+    by : (s : Shape) → shape_of structs d.ctype ≡ s → member_leaves (array_members (parameters_of structs taints (suc k) ds)) true path ≡ array_leaves structs ds path → member_leaves (array_members (parameters_of structs taints k (d ∷ ds))) true path ≡ if_array (shape_of structs d.ctype) (leads_to true path d.name) (behind path) ++ array_leaves structs ds path
     by nothing e rest = rw e rest
     by (integer kind) e rest = rw e rest
     by (struct ms) e rest = rw e rest
-    by (array element size) e rest = rw e (ap (λ (xs : List IntKind). kinds_of (array element size) ++ xs) rest)
+    by (array element size) e rest = rw e (ap (λ (xs : List Leaf). leaves (array element size) (leads_to true path d.name) (behind path) ++ xs) rest)
 
 -- ---- definitions by their numbers
 
@@ -85,21 +88,21 @@ module _ (structs : Structs) (statics : List Static) (f : FnFact) (level : ℕ) 
   other_item k n (Cle p line) more other = refl
 
   -- that of the function itself has the integers of its signature
-  pub own_item : (k : ℕ) (reply : Bool) (item : Item) (more : List Definition) → function_at more k ≡ None → kinds_by (function_at (definition_of structs statics k f level label item ++ more) k) reply ≡ signature_kinds structs reply (item_signature label item)
+  pub own_item : (k : ℕ) (reply : Bool) (path : List Word) (item : Item) (more : List Definition) → function_at more k ≡ None → leaves (payload_by (function_at (definition_of structs statics k f level label item ++ more) k) reply) true path ≡ signature_leaves structs reply (item_signature label item) path
   unfolding definition_of function_at
-  own_item k reply (Function a result name b params (Some body) c e) more none = by (is_counted (taints_of label) params)
+  own_item k reply path (Function a result name b params (Some body) c e) more none = by (is_counted (taints_of label) params)
     where
-      same : (way : Bool) → kinds_of (payload_of (record { index = k; name = name; line = f.line; level = level; taints = taints_of label; entries = entries_of label; result = shape_of structs result; params = parameters_of structs (taints_of label) 0 params; body = body; statics = map (λ s. s.binding) (filter (is_owned_by k) statics) }) way) ≡ signature_kinds structs way (Some (record { result = result; params = params }))
-      same false = request_is structs (taints_of label) 0 params
-      same true = ap (λ (xs : List IntKind). kinds_of (shape_of structs result) ++ xs) (arrays_are structs (taints_of label) 0 params)
+      same : (way : Bool) → leaves (payload_of (record { index = k; name = name; line = f.line; level = level; taints = taints_of label; entries = entries_of label; result = shape_of structs result; params = parameters_of structs (taints_of label) 0 params; body = body; statics = map (λ s. s.binding) (filter (is_owned_by k) statics) }) way) true path ≡ signature_leaves structs way (Some (record { result = result; params = params })) path
+      same false = request_is structs (taints_of label) 0 params path
+      same true = ap (λ (xs : List Leaf). leaves (shape_of structs result) (leads_to true path (codes "return")) (behind path) ++ xs) (arrays_are structs (taints_of label) 0 params path)
 
-      by : (t : Bool) → kinds_by (function_at (if_counted t (record { index = k; name = name; line = f.line; level = level; taints = taints_of label; entries = entries_of label; result = shape_of structs result; params = parameters_of structs (taints_of label) 0 params; body = body; statics = map (λ s. s.binding) (filter (is_owned_by k) statics) }) ++ more) k) reply ≡ signature_kinds structs reply (if t then Some (record { result = result; params = params }) else None)
+      by : (t : Bool) → leaves (payload_by (function_at (if_counted t (record { index = k; name = name; line = f.line; level = level; taints = taints_of label; entries = entries_of label; result = shape_of structs result; params = parameters_of structs (taints_of label) 0 params; body = body; statics = map (λ s. s.binding) (filter (is_owned_by k) statics) }) ++ more) k) reply) true path ≡ signature_leaves structs reply (if t then Some (record { result = result; params = params }) else None) path
       by true = rw (eq-eqb k k refl) (same reply)
       by false = rw none refl
-  own_item k reply (Function a result name b params None c e) more none = rw none refl
-  own_item k reply (Struct name members line) more none = rw none refl
-  own_item k reply (Variables v) more none = rw none refl
-  own_item k reply (Cle p line) more none = rw none refl
+  own_item k reply path (Function a result name b params None c e) more none = rw none refl
+  own_item k reply path (Struct name members line) more none = rw none refl
+  own_item k reply path (Variables v) more none = rw none refl
+  own_item k reply path (Cle p line) more none = rw none refl
 
 module _ (checked : Checked) (structs : Structs) (statics : List Static) where
   abbrev item_at : FnFact → Item
@@ -115,16 +118,16 @@ module _ (checked : Checked) (structs : Structs) (statics : List Static) where
       let other : k ≢ n = omega arith in
       other_item structs statics f (level_of_function checked k) (label_for k) k n (item_at f) (definitions_from checked structs statics (suc k) fs) other ∙ later fs (suc k) n (omega arith)
 
-  pub kinds_from : (fs : List FnFact) (k n : ℕ) (reply : Bool) → kinds_by (function_at (definitions_from checked structs statics k fs) (k + n)) reply ≡ signature_kinds structs reply (signature_by checked (k + n) (slice_get fs n))
+  pub leaves_from : (fs : List FnFact) (k n : ℕ) (reply : Bool) (path : List Word) → leaves (payload_by (function_at (definitions_from checked structs statics k fs) (k + n)) reply) true path ≡ signature_leaves structs reply (signature_by checked (k + n) (slice_get fs n)) path
   unfolding definitions_from function_at
-  kinds_from [] k n reply = refl
-  kinds_from (f ∷ fs) k zero reply =
+  leaves_from [] k n reply path = refl
+  leaves_from (f ∷ fs) k zero reply path =
       let e : k + zero ≡ k = omega arith in
-      rw e (own_item structs statics f (level_of_function checked k) (label_for k) k reply (item_at f) (definitions_from checked structs statics (suc k) fs) (later fs (suc k) k (omega arith)))
-  kinds_from (f ∷ fs) k (suc n) reply =
+      rw e (own_item structs statics f (level_of_function checked k) (label_for k) k reply path (item_at f) (definitions_from checked structs statics (suc k) fs) (later fs (suc k) k (omega arith)))
+  leaves_from (f ∷ fs) k (suc n) reply path =
       let e : k + suc n ≡ suc k + n = omega arith in
       let other : k ≢ suc k + n = omega arith in
-      rw e (ap (λ (d : Option Definition). kinds_by d reply) (other_item structs statics f (level_of_function checked k) (label_for k) k (suc k + n) (item_at f) (definitions_from checked structs statics (suc k) fs) other) ∙ kinds_from fs (suc k) n reply)
+      rw e (ap (λ (d : Option Definition). leaves (payload_by d reply) true path) (other_item structs statics f (level_of_function checked k) (label_for k) k (suc k + n) (item_at f) (definitions_from checked structs statics (suc k) fs) other) ∙ leaves_from fs (suc k) n reply path)
 
 -- the integers of a function's payload are those of its signature
 pub item_found : (checked : Checked) (k : ℕ) (f : FnFact) (item : Item) → slice_get checked.typed.functions k ≡ Some f → slice_get checked.typed.program.items f.item ≡ Some item → signature_of checked k ≡ item_signature (label_at checked.labels.labels (label_of_function checked k)) item
@@ -139,13 +142,13 @@ pub function_missing : (checked : Checked) (k : ℕ) → slice_get checked.typed
 unfolding signature_of
 function_missing checked k e = ap (signature_by checked k) e
 
-pub payload_is : (checked : Checked) (n : ℕ) (reply : Bool) → kinds_by (function_at (source_of checked).functions n) reply ≡ signature_kinds (structs_of checked.typed.program.items) reply (signature_of checked n)
+pub payload_is : (checked : Checked) (n : ℕ) (reply : Bool) (path : List Word) → leaves (payload_by (function_at (source_of checked).functions n) reply) true path ≡ signature_leaves (structs_of checked.typed.program.items) reply (signature_of checked n) path
 unfolding source_of signature_of
-payload_is checked n reply =
+payload_is checked n reply path =
     let structs : Structs = structs_of checked.typed.program.items in
     let statics : List Static = statics_from checked structs 0 [] checked.typed.objects (flat_map item_statics checked.typed.program.items) in
     let e : 0 + n ≡ n = omega arith in
-    subst (λ (m : ℕ). kinds_by (function_at (definitions_from checked structs statics 0 checked.typed.functions) m) reply ≡ signature_kinds structs reply (signature_by checked m (slice_get checked.typed.functions n))) e (kinds_from checked structs statics checked.typed.functions 0 n reply)
+    subst (λ (m : ℕ). leaves (payload_by (function_at (definitions_from checked structs statics 0 checked.typed.functions) m) reply) true path ≡ signature_leaves structs reply (signature_by checked m (slice_get checked.typed.functions n)) path) e (leaves_from checked structs statics checked.typed.functions 0 n reply path)
 
 -- the kinds of a row are those of its function
 pub row_is : (source : Source) (rows : List GedlRow) (k : ℕ) (reply : Bool) (row : GedlRow) → k < length rows → row ≡ get_or rows k row → kinds_at source rows k reply ≡ kinds_by (function_at source.functions row.function) reply
@@ -153,3 +156,8 @@ unfolding kinds_at
 row_is source [] k reply row h e = absurd (omega arith)
 row_is source (r ∷ rs) zero reply row h e = ap (λ (x : GedlRow). kinds_by (function_at source.functions x.function) reply) (sym e)
 row_is source (r ∷ rs) (suc k) reply row h e = row_is source rs k reply row (omega arith) e
+
+-- and they are those of its leaves, whatever path was asked for
+pub kinds_by_leaves : (d : Option Definition) (reply : Bool) (path : List Word) → map (λ l. l.kind) (leaves (payload_by d reply) true path) ≡ kinds_by d reply
+kinds_by_leaves None reply path = refl
+kinds_by_leaves (Some d) reply path = kinds_are (payload_of d reply) true path

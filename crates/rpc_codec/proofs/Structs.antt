@@ -4,7 +4,6 @@ use Rattle.std.specs.List.{fold, flat_map}
 use Rattle.std.proofs.lemmas.List.{take-append-drop, append-nil, drop_more, drop_at, take_at}
 use Rattle.std.proofs.lemmas.List.Sums.{fold_more, fold-append}
 use Rattle.std.proofs.lemmas.Option.{none-some}
-use Rattle.cl_tree.specs.declared.kinds.IntKind.{IntKind}
 use Rattle.cl_tree.specs.declared.tree.CType.{CType, CType-F, out-CType, map-CType, roll-CType, roll-out-CType, fold_out-CType}
 use Rattle.cl_tree.specs.declared.tree.CType.TheOpen as layer
 use Rattle.cl_tree.specs.declared.tree.CType.TheVariants.{Array, outs-Array, rolls-Array}
@@ -13,8 +12,9 @@ use Rattle.cl_tree.specs.declared.tree.Declarator.{Declarator}
 use Rattle.cl_tree.specs.declared.tree.Item.{Item}
 use Rattle.cl_tree.specs.declared.tree.Item.TheVariants.{Struct, Variables, Function, Cle}
 use Rattle.cl_tree.specs.Words.{Word, entry}
-use Rattle.cl_mean.specs.Shape.{Shape, array, Members, Structs, type_shape, shape_of, kinds_of, member_kinds, members_of, times, with_struct, structs_of, struct_known}
-use Rattle.rpc_codec.specs.Flat.{spread, spread_step}
+use Rattle.cl_mean.specs.Shape.{Shape, array, Members, Structs, type_shape, shape_of, members_of, times, with_struct, structs_of, struct_known}
+use Rattle.rpc_codec.specs.declared.leaves.Leaf.{Leaf}
+use Rattle.rpc_codec.specs.Leaves.{behind, leads_to, leaves, member_leaves, spread, spread_step}
 use Rattle.rpc_codec.specs.Signature.{if_array}
 
 -- ---- arrays
@@ -23,50 +23,50 @@ shape_is : (structs : Structs) (t : CType) → shape_of structs t ≡ type_shape
 unfolding shape_of
 shape_is structs t = fold_out-CType Shape (type_shape structs) t
 
-spread_is : (t : CType) (kinds : List IntKind) → spread t kinds ≡ spread_step kinds (map-CType CType (List IntKind) (λ e. spread e kinds) (out-CType t))
+spread_is : (t : CType) (kinds : List Leaf) → spread t kinds ≡ spread_step kinds (map-CType CType (List Leaf) (λ e. spread e kinds) (out-CType t))
 unfolding spread
-spread_is t kinds = fold_out-CType (List IntKind) (spread_step kinds) t
+spread_is t kinds = fold_out-CType (List Leaf) (spread_step kinds) t
 
-pub shape_of_array : (structs : Structs) (t e : CType) (n : ℕ) → t ≡ Array e n → kinds_of (shape_of structs t) ≡ times n (kinds_of (shape_of structs e))
-shape_of_array structs t e n is = ap (λ (s : CType). kinds_of (shape_of structs s)) is ∙ ap kinds_of (shape_is structs (Array e n) ∙ ap (λ (x : CType-F CType). type_shape structs (map-CType CType Shape (shape_of structs) x)) (outs-Array e n))
+pub shape_of_array : (structs : Structs) (t e : CType) (n : ℕ) (on : Bool) (path : List Word) → t ≡ Array e n → leaves (shape_of structs t) on path ≡ times n (leaves (shape_of structs e) on path)
+shape_of_array structs t e n on path is = ap (λ (s : CType). leaves (shape_of structs s) on path) is ∙ ap (λ (s : Shape). leaves s on path) (shape_is structs (Array e n) ∙ ap (λ (x : CType-F CType). type_shape structs (map-CType CType Shape (shape_of structs) x)) (outs-Array e n))
 
 -- the integers of a type if it is an array
-pub array_part : (structs : Structs) (t e : CType) (n : ℕ) → t ≡ Array e n → if_array (shape_of structs t) ≡ kinds_of (shape_of structs t)
-array_part structs t e n is =
+pub array_part : (structs : Structs) (t e : CType) (n : ℕ) (on : Bool) (path : List Word) → t ≡ Array e n → if_array (shape_of structs t) on path ≡ leaves (shape_of structs t) on path
+array_part structs t e n on path is =
     let made : shape_of structs t ≡ array (shape_of structs e) n = ap (shape_of structs) is ∙ shape_is structs (Array e n) ∙ ap (λ (x : CType-F CType). type_shape structs (map-CType CType Shape (shape_of structs) x)) (outs-Array e n) in
     rw made refl
 
-no_array : (structs : Structs) (ms : Option Members) → if_array (struct_known ms) ≡ []
-no_array structs None = refl
-no_array structs (Some ms) = refl
+no_array : (ms : Option Members) (on : Bool) (path : List Word) → if_array (struct_known ms) on path ≡ []
+no_array None on path = refl
+no_array (Some ms) on path = refl
 
-pub other_part : (structs : Structs) (t : CType) → ((e : CType) (n : ℕ) → t ≡ Array e n → ⊥) → if_array (shape_of structs t) ≡ []
-other_part structs t other = ap if_array (shape_is structs t) ∙ by (out-CType t) refl
+pub other_part : (structs : Structs) (t : CType) (on : Bool) (path : List Word) → ((e : CType) (n : ℕ) → t ≡ Array e n → ⊥) → if_array (shape_of structs t) on path ≡ []
+other_part structs t on path other = ap (λ (s : Shape). if_array s on path) (shape_is structs t) ∙ by (out-CType t) refl
   where
-    by : (x : CType-F CType) → out-CType t ≡ x → if_array (type_shape structs (map-CType CType Shape (shape_of structs) x)) ≡ []
+    by : (x : CType-F CType) → out-CType t ≡ x → if_array (type_shape structs (map-CType CType Shape (shape_of structs) x)) on path ≡ []
     by layer.Void q = refl
     by (layer.Integer kind) q = refl
-    by (layer.Struct tag) q = no_array structs (entry structs tag)
+    by (layer.Struct tag) q = no_array (entry structs tag) on path
     by (layer.Array e n) q = absurd (other e n (sym (roll-out-CType t) ∙ ap roll-CType q ∙ rolls-Array e n))
     by (layer.Pointer e) q = refl
     by layer.Floating q = refl
 
-pub spread_of_array : (t e : CType) (n : ℕ) (kinds : List IntKind) → t ≡ Array e n → spread t kinds ≡ times n (spread e kinds)
-spread_of_array t e n kinds is = ap (λ (s : CType). spread s kinds) is ∙ spread_is (Array e n) kinds ∙ ap (λ (x : CType-F CType). spread_step kinds (map-CType CType (List IntKind) (λ e. spread e kinds) x)) (outs-Array e n)
+pub spread_of_array : (t e : CType) (n : ℕ) (kinds : List Leaf) → t ≡ Array e n → spread t kinds ≡ times n (spread e kinds)
+spread_of_array t e n kinds is = ap (λ (s : CType). spread s kinds) is ∙ spread_is (Array e n) kinds ∙ ap (λ (x : CType-F CType). spread_step kinds (map-CType CType (List Leaf) (λ e. spread e kinds) x)) (outs-Array e n)
 
-pub times_none : (n : ℕ) (xs : List IntKind) → xs ≡ [] → times n xs ≡ []
+pub times_none : (n : ℕ) (xs : List Leaf) → xs ≡ [] → times n xs ≡ []
 times_none zero xs e = refl
 times_none (suc n) xs e = rw (times_none n xs e, e) refl
 
-one_more : (n : ℕ) (xs : List IntKind) → times n xs ++ xs ≡ times (suc n) xs
+one_more : (n : ℕ) (xs : List Leaf) → times n xs ++ xs ≡ times (suc n) xs
 one_more zero xs = sym (append-nil xs)
-one_more (suc n) xs = append_assoc xs (times n xs) xs ∙ ap (λ (ys : List IntKind). xs ++ ys) (one_more n xs)
+one_more (suc n) xs = append_assoc xs (times n xs) xs ∙ ap (λ (ys : List Leaf). xs ++ ys) (one_more n xs)
 
-pub times_end : (n : ℕ) (xs : List IntKind) → times n xs ++ xs ≡ times (n + 1) xs
+pub times_end : (n : ℕ) (xs : List Leaf) → times n xs ++ xs ≡ times (n + 1) xs
 times_end n xs = let e : suc n ≡ n + 1 = omega arith in one_more n xs ∙ ap (λ (k : ℕ). times k xs) e
 
 -- the first of the blocks behind a front
-pub first_block : (front block : List IntKind) (n : ℕ) → 0 < n → slice_range (front ++ times n block) (length front) (length front + length block) ≡ block
+pub first_block : (front block : List Leaf) (n : ℕ) → 0 < n → slice_range (front ++ times n block) (length front) (length front + length block) ≡ block
 first_block front block zero h = absurd (omega arith)
 first_block front block (suc n) h =
     let size : length front + length block - length front ≡ length block = omega arith in
@@ -74,34 +74,34 @@ first_block front block (suc n) h =
     rw (size, behind) (take_at block (times n block) (length block) refl)
 
 -- one block more behind those that stand there
-pub block_added : (whole front block more : List IntKind) (n : ℕ) → whole ≡ front ++ times n block → more ≡ block → whole ++ more ≡ front ++ times (n + 1) block
-block_added whole front block more n is same = rw (is, same) (append_assoc front (times n block) block ∙ ap (λ (xs : List IntKind). front ++ xs) (times_end n block))
+pub block_added : (whole front block more : List Leaf) (n : ℕ) → whole ≡ front ++ times n block → more ≡ block → whole ++ more ≡ front ++ times (n + 1) block
+block_added whole front block more n is same = rw (is, same) (append_assoc front (times n block) block ∙ ap (λ (xs : List Leaf). front ++ xs) (times_end n block))
 
 -- the block that stands first behind the front, by its places
-pub block_is : (whole front block : List IntKind) (n a b : ℕ) → whole ≡ front ++ times n block → 0 < n → a ≡ length front → b ≡ length front + length block → slice_range whole a b ≡ block
+pub block_is : (whole front block : List Leaf) (n a b : ℕ) → whole ≡ front ++ times n block → 0 < n → a ≡ length front → b ≡ length front + length block → slice_range whole a b ≡ block
 block_is whole front block n a b is some start end = rw (is, start, end) (first_block front block n some)
 
-pub block_within : (whole front block : List IntKind) (n : ℕ) → whole ≡ front ++ times n block → 0 < n → length front + length block ≤ length whole
+pub block_within : (whole front block : List Leaf) (n : ℕ) → whole ≡ front ++ times n block → 0 < n → length front + length block ≤ length whole
 block_within whole front block zero is some = absurd (omega arith)
 block_within whole front block (suc n) is some = rw is (omega (arith, length-append front (block ++ times n block), length-append block (times n block)))
 
 -- ---- members
 
 -- the integers of some members and then more
-pub members_then : (structs : Structs) (ds es : List Declarator) → member_kinds (members_of structs (ds ++ es)) ≡ member_kinds (members_of structs ds) ++ member_kinds (members_of structs es)
-members_then structs [] es = refl
-members_then structs (d ∷ ds) es = ap (λ (xs : List IntKind). kinds_of (shape_of structs d.ctype) ++ xs) (members_then structs ds es) ∙ sym (append_assoc (kinds_of (shape_of structs d.ctype)) (member_kinds (members_of structs ds)) (member_kinds (members_of structs es)))
+pub members_then : (structs : Structs) (on : Bool) (path : List Word) (ds es : List Declarator) → member_leaves (members_of structs (ds ++ es)) on path ≡ member_leaves (members_of structs ds) on path ++ member_leaves (members_of structs es) on path
+members_then structs on path [] es = refl
+members_then structs on path (d ∷ ds) es = ap (λ (xs : List Leaf). leaves (shape_of structs d.ctype) (leads_to on path d.name) (behind path) ++ xs) (members_then structs on path ds es) ∙ sym (append_assoc (leaves (shape_of structs d.ctype) (leads_to on path d.name) (behind path)) (member_leaves (members_of structs ds) on path) (member_leaves (members_of structs es) on path))
 
-pub declaration_step : (structs : Structs) (ds : List Declaration) (i : ℕ) (d : Declaration) → i < length ds → member_kinds (members_of structs (flat_map (λ d. d.names) (drop i ds))) ≡ member_kinds (members_of structs (get_or ds i d).names) ++ member_kinds (members_of structs (flat_map (λ d. d.names) (drop (i + 1) ds)))
-declaration_step structs ds i d h = ap (λ (es : List Declaration). member_kinds (members_of structs (flat_map (λ d. d.names) es))) (drop_more ds i d h) ∙ members_then structs (get_or ds i d).names (flat_map (λ d. d.names) (drop (i + 1) ds))
+pub declaration_step : (structs : Structs) (on : Bool) (path : List Word) (ds : List Declaration) (i : ℕ) (d : Declaration) → i < length ds → member_leaves (members_of structs (flat_map (λ d. d.names) (drop i ds))) on path ≡ member_leaves (members_of structs (get_or ds i d).names) on path ++ member_leaves (members_of structs (flat_map (λ d. d.names) (drop (i + 1) ds))) on path
+declaration_step structs on path ds i d h = ap (λ (es : List Declaration). member_leaves (members_of structs (flat_map (λ d. d.names) es)) on path) (drop_more ds i d h) ∙ members_then structs on path (get_or ds i d).names (flat_map (λ d. d.names) (drop (i + 1) ds))
 
 -- one declaration further
-pub members_more : (structs : Structs) (ds : List Declaration) (i : ℕ) (d : Declaration) (kinds new whole : List IntKind) → i < length ds → get_or ds i d ≡ d → new ≡ kinds ++ member_kinds (members_of structs d.names) → kinds ++ member_kinds (members_of structs (flat_map (λ d. d.names) (drop i ds))) ≡ whole → new ++ member_kinds (members_of structs (flat_map (λ d. d.names) (drop (i + 1) ds))) ≡ whole
-members_more structs ds i d kinds new whole h is added before =
-    let rest : List IntKind = member_kinds (members_of structs (flat_map (λ d. d.names) (drop (i + 1) ds))) in
-    ap (λ (xs : List IntKind). xs ++ rest) added ∙ append_assoc kinds (member_kinds (members_of structs d.names)) rest
-    ∙ ap (λ (e : Declaration). kinds ++ (member_kinds (members_of structs e.names) ++ rest)) (sym is)
-    ∙ ap (λ (xs : List IntKind). kinds ++ xs) (sym (declaration_step structs ds i d h)) ∙ before
+pub members_more : (structs : Structs) (on : Bool) (path : List Word) (ds : List Declaration) (i : ℕ) (d : Declaration) (kinds new whole : List Leaf) → i < length ds → get_or ds i d ≡ d → new ≡ kinds ++ member_leaves (members_of structs d.names) on path → kinds ++ member_leaves (members_of structs (flat_map (λ d. d.names) (drop i ds))) on path ≡ whole → new ++ member_leaves (members_of structs (flat_map (λ d. d.names) (drop (i + 1) ds))) on path ≡ whole
+members_more structs on path ds i d kinds new whole h is added before =
+    let rest : List Leaf = member_leaves (members_of structs (flat_map (λ d. d.names) (drop (i + 1) ds))) on path in
+    ap (λ (xs : List Leaf). xs ++ rest) added ∙ append_assoc kinds (member_leaves (members_of structs d.names) on path) rest
+    ∙ ap (λ (e : Declaration). kinds ++ (member_leaves (members_of structs e.names) on path ++ rest)) (sym is)
+    ∙ ap (λ (xs : List Leaf). kinds ++ xs) (sym (declaration_step structs on path ds i d h)) ∙ before
 
 -- ---- structs by their tags
 

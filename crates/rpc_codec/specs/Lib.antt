@@ -1,3 +1,3 @@
 pub mod Frames
-pub mod Flat
+pub mod Leaves
 pub mod Signature

@@ -1,6 +1,6 @@
 -- The result and the parameters of a function, and the integers of its payloads by them.
-use Rattle.std.specs.Prelude.{ℕ, Bool, true, false, List, [], ◌∷◌, ◌++◌, Option, Some, None, slice_get, slice_index_or, if◌then◌else◌}
-use Rattle.cl_tree.specs.declared.kinds.IntKind.{IntKind}
+use Rattle.std.specs.Prelude.{ℕ, Bool, true, false, List, [], ◌∷◌, ◌++◌, Option, Some, None, slice_get, slice_index_or, codes, if◌then◌else◌}
+use Rattle.cl_tree.specs.Words.{Word}
 use Rattle.cl_tree.specs.declared.tree.CType.{CType}
 use Rattle.cl_tree.specs.declared.tree.Declarator.{Declarator}
 use Rattle.cl_tree.specs.declared.tree.Item.{Item}
@@ -8,7 +8,9 @@ use Rattle.cl_tree.specs.declared.tree.Item.TheVariants.{Function}
 use Rattle.cl_mean.specs.declared.checked.Checked.{Checked}
 use Rattle.cl_mean.specs.declared.checked.FnFact.{FnFact}
 use Rattle.cl_mean.specs.declared.labels.LabelFact.{LabelFact}
-use Rattle.cl_mean.specs.Shape.{Shape, array, Structs, shape_of, kinds_of, members_of, member_kinds}
+use Rattle.cl_mean.specs.Shape.{Shape, array, Structs, shape_of, members_of}
+use Rattle.rpc_codec.specs.declared.leaves.Leaf.{Leaf}
+use Rattle.rpc_codec.specs.Leaves.{leaves, member_leaves, leads_to, behind}
 use Rattle.cl_mean.specs.Source.{is_counted, label_at, label_of_function, no_item, taints_of}
 
 pub record Signature : Type 0 where
@@ -29,15 +31,17 @@ signature_by checked k (Some f) =
 unfoldable pub signature_of : Checked → ℕ → Option Signature
 signature_of checked k = signature_by checked k (slice_get checked.typed.functions k)
 
-abbrev pub if_array : Shape → List IntKind
-if_array (array element size) = kinds_of (array element size)
-if_array _ = []
+-- the integers of a parameter of a reply, if it is an array
+abbrev pub if_array : Shape → Bool → List Word → List Leaf
+if_array (array element size) on path = leaves (array element size) on path
+if_array _ on path = []
 
-abbrev pub array_kinds : Structs → List Declarator → List IntKind
-array_kinds structs [] = []
-array_kinds structs (d ∷ ds) = if_array (shape_of structs d.ctype) ++ array_kinds structs ds
+abbrev pub array_leaves : Structs → List Declarator → List Word → List Leaf
+array_leaves structs [] path = []
+array_leaves structs (d ∷ ds) path = if_array (shape_of structs d.ctype) (leads_to true path d.name) (behind path) ++ array_leaves structs ds path
 
-abbrev pub signature_kinds : Structs → Bool → Option Signature → List IntKind
-signature_kinds structs reply None = []
-signature_kinds structs false (Some s) = member_kinds (members_of structs s.params)
-signature_kinds structs true (Some s) = kinds_of (shape_of structs s.result) ++ array_kinds structs s.params
+abbrev pub signature_leaves : Structs → Bool → Option Signature → List Word → List Leaf
+signature_leaves structs reply None path = []
+signature_leaves structs false (Some s) path = member_leaves (members_of structs s.params) true path
+signature_leaves structs true (Some s) path =
+    leaves (shape_of structs s.result) (leads_to true path (codes "return")) (behind path) ++ array_leaves structs s.params path

@@ -1,11 +1,13 @@
 //! Laws of payloads: each is the contract of a function that does nothing.
 
-ghost use Rattle.std.specs.Prelude.{◌≡◌, ℕ, ℤ, ◌<◌, ◌++◌, List, length, true, slice_index};
+ghost use Rattle.std.specs.Prelude.{◌≡◌, ℕ, ℤ, ◌<◌, ◌++◌, List, Bool, length, map, true, slice_index};
 ghost use Rattle.cl_tree.specs.declared.kinds.IntKind.{IntKind as Kind};
 ghost use Rattle.cl_mean.specs.Journal.{payload_bytes, payload_numbers, frame_bytes};
 ghost use Rattle.cl_mean.specs.LocalRun.{is_fitting};
-ghost use Rattle.cl_mean.specs.Shape.{total_size};
+ghost use Rattle.cl_mean.specs.Shape.{Shape, kinds_of, total_size, under};
+ghost use Rattle.cl_tree.specs.Words.{Word};
 ghost use Rattle.rpc_codec.specs.Frames.{header_bytes};
+ghost use Rattle.rpc_codec.specs.Leaves.{chosen_from, leaves};
 
 /// Numbers of their kinds are read back from their payload, whatever follows it.
 pub fn numbers_return()
@@ -26,4 +28,10 @@ pub fn payload_is_long()
 /// The bytes of a frame are those of its header and then its payload.
 pub fn frame_is_header_and_payload()
     ensures { (mux typ turn code : ℕ) (payload : List ℕ) → frame_bytes mux typ turn code payload ≡ header_bytes (record { mux = mux; sec = mux; typ = typ; turn = turn; kind = code; length = length payload }) ++ payload }
+{}
+
+/// The integers of a payload have its kinds, whatever path is asked for, and those under the path stand at its places.
+pub fn leaves_are_the_integers()
+    ensures kinds { (s : Shape) (on : Bool) (path : List Word) → map (λ l. l.kind) (leaves s on path) ≡ kinds_of s }
+    ensures places { (s : Shape) (path : List Word) (at : ℕ) → chosen_from at (leaves s true path) ≡ under s path at }
 {}

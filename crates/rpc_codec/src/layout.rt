@@ -1,12 +1,13 @@
 //! The layout of a payload.
 
-ghost use Rattle.std.specs.Prelude.{◌≡◌, ◌<◌, length, IfOk};
+ghost use Rattle.std.specs.Prelude.{◌≡◌, ◌<◌, length, map, IfOk};
 ghost use Rattle.cl_mean.specs.Journal.{kinds_at};
 ghost use Rattle.cl_mean.specs.Shape.{total_size};
 ghost use Rattle.cl_mean.specs.Source.{source_of};
 
-use crate::kinds::total_size;
-use crate::signature::push_payload;
+use crate::leaves::Leaf;
+use crate::signature::leaves_of;
+use crate::sizes::total_size;
 use cl_base::name::NoMemory;
 use cl_mean::checked::Checked;
 use cl_tree::kinds::IntKind;
@@ -33,6 +34,13 @@ impl Model for Layout {
     ghost invariant = { λ l. l.length ≡ total_size l.kinds.items };
 }
 
+fn kinds_in(alloc: Global, leaves: &[Leaf]) -> Result<Vec<IntKind>, NoMemory>
+    ensures { IfOk result (λ kinds. kinds.items ≡ map (λ l. l.kind) leaves.now) }
+{
+    let kinds = leaves.iter().map(|leaf| leaf.kind).collect(alloc)?;
+    Ok(kinds)
+}
+
 impl Layout {
     /// The layout of a row's request, or of its reply: the integers of the parameters, or of the result and then of the
     /// array parameters, structs by members and arrays by elements.
@@ -41,8 +49,8 @@ impl Layout {
         ensures { IfOk result (λ layout. layout ≡ kinds_at (source_of checked.now) checked.now.gedl.rows row reply) }
     {
         let function = checked.gedl.rows.as_slice()[row as usize].function;
-        let mut kinds = Vec::new(alloc);
-        push_payload(checked, function, reply, &mut kinds)?;
+        let leaves = leaves_of(alloc, checked, function, reply, &[])?;
+        let kinds = kinds_in(alloc, &leaves)?;
         Layout::from_kinds(kinds)
     }
 

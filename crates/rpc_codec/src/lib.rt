@@ -2,8 +2,9 @@
 #![tactic(auto)]
 
 pub mod frame;
-mod kinds;
 pub mod laws;
 pub mod layout;
+pub mod leaves;
 pub mod payload;
-mod signature;
+pub mod signature;
+mod sizes;

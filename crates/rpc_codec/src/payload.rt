@@ -8,8 +8,8 @@ ghost use Rattle.cl_mean.specs.LocalRun.{is_fitting};
 ghost use Rattle.cl_mean.specs.Shape.{size_of, total_size};
 
 use crate::frame::FrameBuf;
-use crate::kinds::size_of;
 use crate::layout::Layout;
+use crate::sizes::size_of;
 use byteorder::{BigEndian, ByteOrder};
 use cl_base::limits::FRAME_BYTES;
 use cl_tree::arithmetic::convert;

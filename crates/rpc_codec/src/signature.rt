@@ -1,17 +1,17 @@
 //! The result and the parameters of a function.
 
-ghost use Rattle.std.specs.Prelude.{◌≡◌, ◌++◌, OnOk, MatchOption, Some, None};
-ghost use Rattle.cl_mean.specs.Journal.{kinds_by};
+ghost use Rattle.std.specs.Prelude.{◌≡◌, ◌++◌, true, IfOk, OnOk, MatchOption, Some, None};
 ghost use Rattle.cl_mean.specs.Shape.{shape_of, structs_of};
 ghost use Rattle.cl_mean.specs.Source.{function_at, is_counted, label_at, label_of_function, source_of, taints_of};
-ghost use Rattle.rpc_codec.specs.Signature.{array_kinds, if_array, item_signature, signature_kinds, signature_of};
+ghost use Rattle.rpc_codec.specs.Leaves.{behind, leads_to, leaves, payload_by};
+ghost use Rattle.rpc_codec.specs.Signature.{array_leaves, if_array, item_signature, signature_of};
 
-use crate::kinds::{push_all, push_type};
-use cl_base::name::NoMemory;
+use crate::leaves::{Leaf, behind, leads_to, push_all, push_type};
+use cl_base::name::{Name, NoMemory};
 use cl_mean::checked::Checked;
 use cl_mean::labels::LabelFact;
-use cl_tree::kinds::IntKind;
 use cl_tree::tree::{CType, Declarator, Item};
+use std::alloc::Global;
 
 /// The result and the parameters of a function.
 #[derive(Clone, Copy)]
@@ -76,12 +76,14 @@ fn signature_of(checked: &Checked, function: u32) -> Option<Signature>
 fn push_if_array(
     items: &[Item],
     param: &Declarator,
-    kinds: &mut Vec<IntKind>,
+    path: &[Name],
+    out: &mut Vec<Leaf>,
 ) -> Result<(), NoMemory>
-    ensures { OnOk result (kinds.new.items ≡ kinds.old.items ++ if_array (shape_of (structs_of items.now) param.now.ctype)) }
+    ensures { OnOk result (out.new.items ≡ out.old.items ++ if_array (shape_of (structs_of items.now) param.now.ctype) (leads_to true path.now param.now.name) (behind path.now)) }
 {
+    let inside = leads_to(true, path, param.name.as_bytes());
     match &param.ctype {
-        CType::Array(..) => push_type(items, &param.ctype, kinds),
+        CType::Array(..) => push_type(items, &param.ctype, inside, behind(path), out),
         _ => Ok(()),
     }
 }
@@ -90,32 +92,39 @@ fn push_if_array(
 fn push_arrays(
     items: &[Item],
     params: &[Declarator],
-    kinds: &mut Vec<IntKind>,
+    path: &[Name],
+    out: &mut Vec<Leaf>,
 ) -> Result<(), NoMemory>
-    ensures { OnOk result (kinds.new.items ≡ kinds.old.items ++ array_kinds (structs_of items.now) params.now) }
+    ensures { OnOk result (out.new.items ≡ out.old.items ++ array_leaves (structs_of items.now) params.now path.now) }
 {
     for param in params {
-        push_if_array(items, param, kinds)?;
+        push_if_array(items, param, path, out)?;
     }
     Ok(())
 }
 
-/// Adds the integers of a function's request, or of its reply.
-pub(crate) fn push_payload(
+/// The integers of a function's request, or of its reply, with those that lie under a path: a parameter's name on a request, `return`
+/// or an array parameter's name on a reply, and then names of members.
+pub fn leaves_of(
+    alloc: Global,
     checked: &Checked,
     function: u32,
     reply: bool,
-    kinds: &mut Vec<IntKind>,
-) -> Result<(), NoMemory>
-    ensures { OnOk result (kinds.new.items ≡ kinds.old.items ++ kinds_by (function_at (source_of checked.now).functions function) reply) }
+    path: &[Name],
+) -> Result<Vec<Leaf>, NoMemory>
+    ensures { IfOk result (λ found. found.items ≡ leaves (payload_by (function_at (source_of checked.now).functions function) reply) true path.now) }
 {
+    let mut out = Vec::new(alloc);
     let items = checked.typed.program.items.as_slice();
     let Some(signature) = signature_of(checked, function) else {
-        return Ok(());
+        return Ok(out);
     };
     if !reply {
-        return push_all(items, signature.params, kinds);
+        push_all(items, signature.params, true, path, &mut out)?;
+        return Ok(out);
     }
-    push_type(items, signature.result, kinds)?;
-    push_arrays(items, signature.params, kinds)
+    let inside = leads_to(true, path, "return".as_bytes());
+    push_type(items, signature.result, inside, behind(path), &mut out)?;
+    push_arrays(items, signature.params, path, &mut out)?;
+    Ok(out)
 }

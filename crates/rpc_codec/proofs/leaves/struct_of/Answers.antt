@@ -1,7 +1,7 @@
 use Rattle.std.proofs.Common.{◌≡◌, rules, sym, ◌∙◌, true, false, bytes_eq}
 use Rattle.cl_mean.specs.Shape.{structs_of}
 use Rattle.rpc_codec.proofs.Structs.{struct_found, other_struct, no_struct}
-use Rattle.rpc_codec.proofs.kinds.struct_of.Goals as goal
+use Rattle.rpc_codec.proofs.leaves.struct_of.Goals as goal
 
 pub loop-place-init : goal.loop-place-init
 unfolding structs_of

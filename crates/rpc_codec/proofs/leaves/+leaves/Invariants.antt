@@ -1,7 +1,8 @@
 use Rattle.std.proofs.Common.{◌≡◌, ◌++◌, ◌+◌, ◌*◌, drop, length}
 use Rattle.std.specs.List.{flat_map}
-use Rattle.cl_mean.specs.Shape.{member_kinds, members_of, structs_of}
-use Rattle.rpc_codec.proofs.kinds.+kinds.Given as goal
+use Rattle.cl_mean.specs.Shape.{members_of, structs_of}
+use Rattle.rpc_codec.specs.Leaves.{member_leaves}
+use Rattle.rpc_codec.proofs.leaves.+leaves.Given as goal
 
 -- each struct is known by the items before it
 abbrev pub decreases-push_all : goal.decreases-push_all
@@ -15,10 +16,10 @@ decreases-push_type l = 3 * length l.items.now + 1
 
 abbrev pub invariant-push_all-loop-name : goal.invariant-push_all-loop-name
 invariant-push_all-loop-name l =
-    l.kinds.items ++ member_kinds (members_of (structs_of l.items) (drop l.name-index l.names))
-    ≡ l.initial.kinds.items ++ member_kinds (members_of (structs_of l.items) l.names)
+    l.out.items ++ member_leaves (members_of (structs_of l.items) (drop l.name-index l.names)) l.on l.path
+    ≡ l.initial.out.items ++ member_leaves (members_of (structs_of l.items) l.names) l.on l.path
 
 abbrev pub invariant-push_struct-loop-declaration : goal.invariant-push_struct-loop-declaration
 invariant-push_struct-loop-declaration l =
-    l.kinds.items ++ member_kinds (members_of (structs_of l.known.before.now) (flat_map (λ d. d.names) (drop l.declaration-index l.declaration-items)))
-    ≡ l.initial.kinds.items ++ member_kinds (members_of (structs_of l.known.before.now) (flat_map (λ d. d.names) l.declaration-items))
+    l.out.items ++ member_leaves (members_of (structs_of l.known.before.now) (flat_map (λ d. d.names) (drop l.declaration-index l.declaration-items))) l.on l.path
+    ≡ l.initial.out.items ++ member_leaves (members_of (structs_of l.known.before.now) (flat_map (λ d. d.names) l.declaration-items)) l.on l.path

@@ -1,8 +1,0 @@
-use Rattle.std.proofs.Common.{ap, sym, ◌∙◌}
-use Rattle.cl_mean.specs.Shape.{times}
-use Rattle.rpc_codec.proofs.Structs.{shape_of_array, spread_of_array}
-use Rattle.rpc_codec.proofs.kinds.+base_of.Goals as goal
-
-pub returns-in-Array : goal.returns-in-Array
-returns-in-Array t c structs =
-    shape_of_array structs _ _ _ c.in-Array.is ∙ ap (times _) (rw c.get.ensures at c.base_of.ensures structs) ∙ sym (spread_of_array _ _ _ _ c.in-Array.is)
