@@ -3,6 +3,7 @@
 
 use cl_base::name::NoMemory;
 use cl_tree::kinds::{BinOp, IntKind};
+use en_fused::reading::entries;
 use en_image::image::{Entrance, Image};
 use en_image::instr::Instr::{self, *};
 use en_machine::engine::Engine;
@@ -78,7 +79,8 @@ fn sum_of(alloc: Global, count: u32) -> Result<Option<i128>, NoMemory> {
     let image = looping(alloc, count)?;
     let mut engine = Engine::open(alloc, &image, u64::MAX)?;
     engine.begin(&image, image.entrance(image.main), &[]);
-    match engine.run(&image, b"", u32::MAX) {
+    let entries = entries(alloc, image.code.as_slice())?;
+    match engine.run_fused(&image, b"", entries.as_slice(), u32::MAX) {
         Some(Stopped::Ended) => Ok(engine.values().first().copied()),
         _ => Ok(None),
     }

@@ -6,3 +6,6 @@ pub mod Writing
 pub mod Acting
 pub mod Lives
 pub mod Begun
+pub mod Going
+pub mod Ends
+pub mod Fusing

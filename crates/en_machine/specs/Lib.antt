@@ -9,3 +9,4 @@ pub mod Begins
 pub mod Phases
 pub mod Life
 pub mod Alive
+pub mod Values

@@ -7,6 +7,8 @@ use crate::engine::Engine;
 use crate::phase::Phase;
 use crate::stopped::Stopped;
 use cl_base::name::NoMemory;
+use en_fused::fused::Entry;
+use en_fused::reading::entries;
 use en_image::image::Image;
 use std::alloc::Global;
 use std::marker::Model;
@@ -20,6 +22,7 @@ pub struct Machine {
     steps: u64,
     phase: Phase,
     engine: Engine,
+    entries: Vec<Entry>,
 }
 
 impl Model for Machine {
@@ -50,12 +53,14 @@ impl Machine {
         ensures machine { IfOk result (λ m. m ≡ record { image = image; input = input.items; steps = steps; phase = Rests; state = opened image steps }) }
     {
         let engine = Engine::open(alloc, &image, steps)?;
+        let entries = entries(alloc, image.code.as_slice())?;
         Ok(Machine {
             image,
             input,
             steps,
             phase: Phase::Rests,
             engine,
+            entries,
         })
     }
 
@@ -89,7 +94,11 @@ impl Machine {
         ensures told { runs self.old.image self.old.input n self.old.state ≡ (Some result, self.new.state) }
         ensures stays { self.new ≡ record self.old { phase = phase_after result; state = self.new.state } }
     {
-        match self.engine.run(&self.image, self.input.as_slice(), n) {
+        let entries = self.entries.as_slice();
+        match self
+            .engine
+            .run_fused(&self.image, self.input.as_slice(), entries, n)
+        {
             Some(stopped) => {
                 self.phase = Phase::after(stopped);
                 stopped
