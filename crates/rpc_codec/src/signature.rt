@@ -4,7 +4,7 @@ ghost use Rattle.std.specs.Prelude.{◌≡◌, ◌++◌, true, IfOk, OnOk, Match
 ghost use Rattle.cl_mean.specs.Shape.{shape_of, structs_of};
 ghost use Rattle.cl_mean.specs.Source.{function_at, is_counted, label_at, label_of_function, source_of, taints_of};
 ghost use Rattle.rpc_codec.specs.Leaves.{behind, leads_to, leaves, payload_by};
-ghost use Rattle.rpc_codec.specs.Signature.{array_leaves, if_array, item_signature, signature_of};
+ghost use Rattle.rpc_codec.specs.Signature.{array_leaves, if_array, item_signature, signature_leaves, signature_of};
 
 use crate::leaves::{Leaf, behind, leads_to, push_all, push_type};
 use cl_base::name::{Name, NoMemory};
@@ -103,8 +103,31 @@ fn push_arrays(
     Ok(())
 }
 
-/// The integers of a function's request, or of its reply, with those that lie under a path: a parameter's name on a request, `return`
-/// or an array parameter's name on a reply, and then names of members.
+/// The integers of the request, or of the reply, of a function with this result and these parameters, where the structs are those of
+/// these items. Chosen are those that lie under a path: a parameter's name on a request, `return` or an array parameter's name on a
+/// reply, and then names of members.
+pub fn signature_leaves(
+    alloc: Global,
+    items: &[Item],
+    returns: &CType,
+    params: &[Declarator],
+    reply: bool,
+    path: &[Name],
+) -> Result<Vec<Leaf>, NoMemory>
+    ensures { IfOk result (λ found. found.items ≡ signature_leaves (structs_of items.now) reply (Some (record { result = returns.now; params = params.now })) path.now) }
+{
+    let mut out = Vec::new(alloc);
+    if !reply {
+        push_all(items, params, true, path, &mut out)?;
+        return Ok(out);
+    }
+    let inside = leads_to(true, path, "return".as_bytes());
+    push_type(items, returns, inside, behind(path), &mut out)?;
+    push_arrays(items, params, path, &mut out)?;
+    Ok(out)
+}
+
+/// The same of a function of a checked source, by its number.
 pub fn leaves_of(
     alloc: Global,
     checked: &Checked,
@@ -114,17 +137,16 @@ pub fn leaves_of(
 ) -> Result<Vec<Leaf>, NoMemory>
     ensures { IfOk result (λ found. found.items ≡ leaves (payload_by (function_at (source_of checked.now).functions function) reply) true path.now) }
 {
-    let mut out = Vec::new(alloc);
     let items = checked.typed.program.items.as_slice();
     let Some(signature) = signature_of(checked, function) else {
-        return Ok(out);
+        return Ok(Vec::new(alloc));
     };
-    if !reply {
-        push_all(items, signature.params, true, path, &mut out)?;
-        return Ok(out);
-    }
-    let inside = leads_to(true, path, "return".as_bytes());
-    push_type(items, signature.result, inside, behind(path), &mut out)?;
-    push_arrays(items, signature.params, path, &mut out)?;
-    Ok(out)
+    signature_leaves(
+        alloc,
+        items,
+        signature.result,
+        signature.params,
+        reply,
+        path,
+    )
 }
