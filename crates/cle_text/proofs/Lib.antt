@@ -1,0 +1,4 @@
+pub mod Each
+pub mod Json
+pub mod Arrays
+pub mod Same
