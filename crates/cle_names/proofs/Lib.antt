@@ -1,0 +1,5 @@
+pub mod Readings
+pub mod Lists
+pub mod Walks
+pub mod Numbers
+pub mod Few

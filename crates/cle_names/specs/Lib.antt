@@ -1,0 +1,4 @@
+pub mod Reading
+pub mod Walked
+pub mod Finding
+pub mod Names
