@@ -66,17 +66,18 @@ unfoldable pub lent : List Mentions → List Declarator → List Mention
 lent (m ∷ ms) (d ∷ ds) = (if is_array (out-CType d.ctype) then m.all else []) ++ lent ms ds
 lent _ _ = []
 
+abbrev pub maybe_one : Option Signature → List Signature
+maybe_one None = []
+maybe_one (Some s) = s ∷ []
+
+-- how the function is declared of which this is a declaration, if it has the label
+abbrev pub borne_by : Program → ℕ → Subject → Option ℕ → List Signature
+borne_by program k (function name) (Some j) = if j == k then maybe_one (signature_of program name) else []
+borne_by program k _ _ = []
+
 -- the functions that have a label, by their declarations that have it
 abbrev pub bearers : Program → ℕ → List Signature
-bearers program k = flat_map (λ m. by m.subject (label_on (label_names program) m)) (marked_of program)
-  where
-    maybe_one : Option Signature → List Signature
-    maybe_one None = []
-    maybe_one (Some s) = s ∷ []
-
-    by : Subject → Option ℕ → List Signature
-    by (function name) (Some j) = if j == k then maybe_one (signature_of program name) else []
-    by _ _ = []
+bearers program k = flat_map (λ m. borne_by program k m.subject (label_on (label_names program) m)) (marked_of program)
 
 -- What comes to a function's level is shareable with it, and what goes back to a caller with the caller's.
 unfoldable pub is_shared : Program → List LabelFact → ℕ → LabelFact → Bool

@@ -1,0 +1,5 @@
+pub mod Bearers
+pub mod Firsts
+pub mod Flags
+pub mod Labels
+pub mod Looks

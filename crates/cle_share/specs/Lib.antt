@@ -1,0 +1,2 @@
+pub mod Bearings
+pub mod Signatures

@@ -1,0 +1,8 @@
+//! E35: labels of taint lists that aren't shareable with a level that their data comes to.
+#![tactic(auto)]
+
+pub mod bearings;
+pub mod lending;
+pub mod share;
+pub mod shareable;
+pub mod signatures;
