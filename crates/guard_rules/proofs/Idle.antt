@@ -1,5 +1,5 @@
 -- Idle laws let everything pass.
-use Rattle.std.proofs.Common.{◌≡◌, ℕ, zero, suc, ℤ, List, [], ◌∷◌, refl, sym, ap, ◌∙◌, Bool, true, false, ◌&&◌, ◌==◌, if◌then◌else◌}
+use Rattle.std.proofs.Common.{◌≡◌, ℤ, List, [], ◌∷◌, refl, ap, Bool, true, false, ◌&&◌, if◌then◌else◌}
 use Rattle.std.specs.List.{list_all}
 use Rattle.std.proofs.lemmas.Bool.{false≢true}
 use Rattle.cl_mean.specs.declared.law.Asked.{Asked}
@@ -8,7 +8,7 @@ use Rattle.cl_mean.specs.declared.law.GuardAct.TheVariants as act
 use Rattle.cl_mean.specs.declared.law.Rule.{Rule}
 use Rattle.cl_mean.specs.declared.law.Law.{Law}
 use Rattle.cl_mean.specs.declared.law.Ruling.TheVariants as ruling
-use Rattle.cl_mean.specs.Judging.{Acted, Judged, act_on, acted_first, passed_by, is_matched, rules_judge, judge, is_idle, is_idle_act, is_idle_rule, of_law}
+use Rattle.cl_mean.specs.Judging.{Acted, act_on, acted_first, passed_by, is_matched, rules_judge, judge, is_idle, is_idle_act, is_idle_rule, of_law}
 
 both : (x y : Bool) → (x && y) ≡ true → (x ≡ true) × (y ≡ true)
 both true y e = (refl, e)

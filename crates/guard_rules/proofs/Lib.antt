@@ -1,1 +1,11 @@
+pub mod Answered
+pub mod Arrays
+pub mod Chosen
+pub mod Counting
+pub mod Each
+pub mod Failing
+pub mod Fitting
 pub mod Idle
+pub mod InOrder
+pub mod Numbers
+pub mod Reading

@@ -1,1 +1,4 @@
+pub mod Answer
 pub mod Guards
+pub mod Policy
+pub mod Text

@@ -1,0 +1,4 @@
+//! A checked source for the tests and the timing of policies.
+#![tactic(auto)]
+
+pub mod source;

@@ -1,0 +1,6 @@
+//! The tests, by what they try.
+
+mod laws;
+mod layouts;
+mod policies;
+mod rules;

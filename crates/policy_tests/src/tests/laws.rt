@@ -1,0 +1,80 @@
+use cl_base::name::NoMemory;
+use cl_mean::checked::Checked;
+use cl_mean::law::{Asked, Ruling};
+use guard_rules::policy::read_policy;
+use policy_source::source::checked;
+use std::alloc::Global;
+use std::test::Fail;
+
+/// Redacts `s.ends`, and then `s.ends.x` within it.
+const INNER_LAST: &str =
+    r#"{"format":1,"rules":[{"from":"purple","to":"orange","function":"draw","on":"request","do":"redact","fields":[{"field":"s.ends","with":5},{"field":"s.ends.x","with":-6}]}]}"#;
+
+/// Redacts `s.ends.x`, and then `s.ends`, which holds it.
+const OUTER_LAST: &str =
+    r#"{"format":1,"rules":[{"from":"purple","to":"orange","function":"draw","on":"request","do":"redact","fields":[{"field":"s.ends.x","with":-6},{"field":"s.ends","with":5}]}]}"#;
+
+/// Blocks every request, before the rule that would redact one.
+const NONE_LEFT: &str =
+    r#"{"format":1,"rules":[{"from":"purple","to":"orange","function":"*","on":"request","do":"quota","left":0},{"from":"purple","to":"orange","function":"draw","on":"request","do":"redact","fields":[{"field":"s","with":0}]}]}"#;
+
+/// The integers of a request: `x` and `y` of two points, `h`, and three elements.
+const SENT: [i128; 8] = [10, 20, 30, 40, 50, 60, 70, 80];
+
+/// A policy, whether it is asked about a reply, what it rules, and what it leaves.
+const JUDGED: [(&str, bool, Ruling, [i128; 8]); 4] = [
+    (
+        INNER_LAST,
+        false,
+        Ruling::Pass,
+        [-6, 5, -6, 5, 50, 60, 70, 80],
+    ),
+    (
+        OUTER_LAST,
+        false,
+        Ruling::Pass,
+        [5, 5, 5, 5, 50, 60, 70, 80],
+    ),
+    (INNER_LAST, true, Ruling::Pass, SENT),
+    (NONE_LEFT, false, Ruling::Block, SENT),
+];
+
+/// What the law of a policy rules of `draw`; None where the policy isn't read.
+fn ruling_of(
+    alloc: Global,
+    checked: &Checked,
+    text: &str,
+    reply: bool,
+    values: &mut [i128],
+) -> Option<Ruling> {
+    let asked = Asked {
+        from: 0,
+        to: 1,
+        function: 0,
+        reply,
+    };
+    match read_policy(alloc, text.as_bytes(), checked) {
+        Ok(mut law) => Some(law.judge(asked, values)),
+        Err(_) => None,
+    }
+}
+
+fn ruling(
+    alloc: Global,
+    text: &str,
+    reply: bool,
+    values: &mut [i128],
+) -> Result<Option<Ruling>, NoMemory> {
+    let checked = checked(alloc)?;
+    Ok(ruling_of(alloc, &checked, text, reply, values))
+}
+
+#[test]
+fn laws_that_were_read_judge(rt: HostRuntime) -> Result<(), Fail> {
+    for (text, reply, wanted, left) in JUDGED {
+        let mut values = SENT;
+        assert_eq!(rt; ruling(rt.alloc(), text, reply, &mut values)?, Some(wanted));
+        assert_eq!(rt; values, left);
+    }
+    Ok(())
+}
