@@ -1,0 +1,4 @@
+pub mod Crossings
+pub mod Levels
+pub mod Placed
+pub mod Uses
