@@ -21,33 +21,23 @@ use Rattle.cl_typing.specs.Rules.{Lines, unless}
 use Rattle.cl_labelling.specs.Fits.{Signature, defined_by, payload}
 use Rattle.cl_reach.specs.Reach.{Reaches}
 use Rattle.cl_levels.specs.Placed.{Places, PlacedRule, placed, listed}
-use Rattle.cl_levels.specs.Uses.{Variable, static, Use, names, calls, uses_of}
-use Rattle.cl_levels.specs.Levels.{Annotated, function, label_of, number_named, Names, Calls, no_fact, two_levels, foreign_names}
+use Rattle.cl_levels.specs.declared.uses.Variable.{Variable}
+use Rattle.cl_levels.specs.declared.uses.Variable.TheVariants.{Static}
+use Rattle.cl_levels.specs.declared.uses.Call.{Call}
+use Rattle.cl_levels.specs.declared.uses.Use.{Use}
+use Rattle.cl_levels.specs.declared.uses.Use.TheVariants.{Named, Called}
+use Rattle.cl_levels.specs.Uses.{of_each}
+use Rattle.cl_levels.specs.Levels.{Annotated, function, label_of, Names, Calls, no_fact, two_levels, foreign_names}
 
 -- ---- calls
 
--- a call of a function of the program by another, with the variable at the root of each argument that names a place
-pub record Call : Type 0 where
-  pub caller : ℕ
-  pub callee : ℕ
-  pub roots : List (Option Variable)
-  pub line : ℕ
+abbrev pub call_in : ℕ → Use → List Call
+call_in f (Named k line) = []
+call_in f (Called g roots line) = record { caller = f; callee = g; line = line } ∷ []
 
-abbrev pub call_of : ℕ → List (Option Variable) → ℕ → Option ℕ → List Call
-call_of f roots line None = []
-call_of f roots line (Some g) = record { caller = f; callee = g; roots = roots; line = line } ∷ []
-
-unfoldable pub call_in : Annotated → ℕ → Use → List Call
-call_in a f (names k line) = []
-call_in a f (calls name roots line) = call_of f roots line (number_named a name)
-
-unfoldable pub calls_from : Annotated → ℕ → List (List Use) → List Call
-calls_from a f [] = []
-calls_from a f (us ∷ uss) = flat_map (call_in a f) us ++ calls_from a (suc f) uss
-
--- all calls of functions of the program, in the order of the source
+-- all calls of functions of the program by others, in the order of the source
 unfoldable pub calls_of : Annotated → List Call
-calls_of a = calls_from a 0 (uses_of a.typed.program)
+calls_of a = of_each call_in a.typed
 
 -- a program with its levels
 pub record Levelled : Type 0 where
@@ -123,21 +113,32 @@ unfoldable pub array_roots : List Declarator → List (Option Variable) → List
 array_roots (d ∷ ds) (r ∷ rs) = (if is_array (out-CType d.ctype) then maybe_root r else []) ++ array_roots ds rs
 array_roots _ _ = []
 
-abbrev pub lent : Annotated → Call → List Variable
-lent a c = array_roots (params_of (signatures_at a c.callee)) c.roots
+-- what a call lends to its callee
+pub record Loan : Type 0 where
+  pub callee : ℕ
+  pub lent : List Variable
+  pub line : ℕ
+
+abbrev pub loan_in : Annotated → ℕ → Use → List Loan
+loan_in a f (Named k line) = []
+loan_in a f (Called g roots line) = record { callee = g; lent = array_roots (params_of (signatures_at a g)) roots; line = line } ∷ []
+
+-- the loans of all calls, in the order of the source
+unfoldable pub loans_of : Annotated → List Loan
+loans_of a = of_each (loan_in a) a.typed
 
 -- two arguments have the same root
 abbrev pub LentTwice : List Variable → Type 0
 LentTwice vs = (i : ℕ) × ((j : ℕ) × ((v : Variable) × ((i < j) × ((slice_get vs i ≡ Some v) × (slice_get vs j ≡ Some v)))))
 
--- The callee, or a function that is reached from it by calls, names the object that is lent to it.
-abbrev pub NamesLent : Annotated → Call → Type 0
-NamesLent a c =
-    (k : ℕ) × (Contains (lent a c) (static k) × ((h : ℕ) × (Reaches (Calls a) (λ g. g ≡ c.callee) h × Names a h k)))
+-- The callee, or a function that is reached from it by calls, names an object that is lent to it.
+abbrev pub NamesLent : Annotated → Loan → Type 0
+NamesLent a loan =
+    (k : ℕ) × (Contains loan.lent (Static k) × ((h : ℕ) × (Reaches (Calls a) (λ g. g ≡ loan.callee) h × Names a h k)))
 
 abbrev pub aliased : Annotated → Places
 aliased a position line =
-    (c : Call) × ((slice_get (calls_of a) position ≡ Some c) × ((c.line ≡ line) × (LentTwice (lent a c) ⊎ NamesLent a c)))
+    (loan : Loan) × ((slice_get (loans_of a) position ≡ Some loan) × ((loan.line ≡ line) × (LentTwice loan.lent ⊎ NamesLent a loan)))
 
 -- ---- rows
 

@@ -16,9 +16,13 @@ use Rattle.cl_mean.specs.declared.labels.LabelTable.{LabelTable}
 use Rattle.cl_mean.specs.Shape.{times}
 use Rattle.cl_mean.specs.Source.{label_at, no_item}
 use Rattle.cl_typing.specs.Rules.{Lines, unless}
+use Rattle.cl_labelling.specs.Regions.{item_part}
 use Rattle.cl_reach.specs.Reach.{Reaches}
 use Rattle.cl_levels.specs.Placed.{Places}
-use Rattle.cl_levels.specs.Uses.{Variable, Use, names, calls, uses_of}
+use Rattle.cl_levels.specs.declared.uses.Variable.{Variable}
+use Rattle.cl_levels.specs.declared.uses.Use.{Use}
+use Rattle.cl_levels.specs.declared.uses.Use.TheVariants.{Named, Called}
+use Rattle.cl_levels.specs.Uses.{number_among, uses_of, of_each}
 
 -- a typed program with its labels
 pub record Annotated : Type 0 where
@@ -45,25 +49,17 @@ own_level a x = option_map (λ l. l.level) (label_at a.labels.labels (label_of a
 
 -- ---- ties
 
--- the number of the function that has a name, counted from a number on
-unfoldable pub number_from : ℕ → List FnFact → Word → Option ℕ
-number_from k [] name = None
-number_from k (f ∷ fs) name = if bytes_eq f.name name then Some k else number_from (suc k) fs name
-
-abbrev pub number_named : Annotated → Word → Option ℕ
-number_named a name = number_from 0 a.typed.functions name
-
 -- what the function of a number uses
 abbrev pub body_of : Annotated → ℕ → List Use
-body_of a f = slice_index_or (uses_of a.typed.program) f []
+body_of a f = slice_index_or (uses_of a.typed) f []
 
 -- a function names an object
 abbrev pub Names : Annotated → ℕ → ℕ → Type 0
-Names a f k = (line : ℕ) × Contains (body_of a f) (names k line)
+Names a f k = (line : ℕ) × Contains (body_of a f) (Named k line)
 
 -- a function calls a function of the program
 abbrev pub Calls : Annotated → ℕ → ℕ → Type 0
-Calls a f g = (name : Word) × ((roots : List (Option Variable)) × ((line : ℕ) × (Contains (body_of a f) (calls name roots line) × (number_named a name ≡ Some g))))
+Calls a f g = (roots : List (Option Variable)) × ((line : ℕ) × Contains (body_of a f) (Called g roots line))
 
 -- A function is tied to a variable that it names, and to an unannotated function that it calls.
 abbrev pub Ties : Annotated → Symbol → Symbol → Type 0
@@ -99,7 +95,7 @@ LevelOr Otherwise a x level =
 
 -- A group without a level that `main` is in has level 0.
 abbrev pub IsMainLevel : Annotated → ℕ → Type 0
-IsMainLevel a level = (m : ℕ) × ((number_named a (codes "main") ≡ Some m) × LevelOr (λ l. l ≡ 0) a (function m) level)
+IsMainLevel a level = (m : ℕ) × ((number_among a.typed.functions (codes "main") ≡ Some m) × LevelOr (λ l. l ≡ 0) a (function m) level)
 
 -- Any other group without a level has that of `main`.
 abbrev pub IsLevel : Annotated → Symbol → ℕ → Type 0
@@ -119,14 +115,7 @@ pub record IsLevelled (a : Annotated) (levels : Levels) : Type 0 where
 -- ---- first tokens
 
 abbrev pub item_line : Item → ℕ
-item_line (item.Struct name members line) = line
-item_line (item.Variables d) = first_of d.names
-  where
-    first_of : List Declarator → ℕ
-    first_of [] = 0
-    first_of (d ∷ ds) = d.second
-item_line (item.Function is_static result name void_word params body line second) = line
-item_line (item.Cle p line) = line
+item_line i = (item_part i).line
 
 abbrev pub maybe_lines : Option Lines → Lines
 maybe_lines None = []
@@ -186,13 +175,9 @@ abbrev pub differs : Option ℕ → Option ℕ → Bool
 differs (Some level) (Some other) = not (level == other)
 differs _ _ = false
 
-unfoldable pub foreign_use : Annotated → ℕ → Use → Lines
-foreign_use a f (names k line) = unless (not (differs (own_level a (function f)) (own_level a (object k)))) line
-foreign_use a f (calls name roots line) = []
-
-unfoldable pub foreign_from : Annotated → ℕ → List (List Use) → Lines
-foreign_from a f [] = []
-foreign_from a f (us ∷ uss) = flat_map (foreign_use a f) us ++ foreign_from a (suc f) uss
+abbrev pub foreign_use : Annotated → ℕ → Use → Lines
+foreign_use a f (Named k line) = unless (not (differs (own_level a (function f)) (own_level a (object k)))) line
+foreign_use a f (Called g roots line) = []
 
 unfoldable pub foreign_names : Annotated → Lines
-foreign_names a = foreign_from a 0 (uses_of a.typed.program)
+foreign_names a = of_each (foreign_use a) a.typed

@@ -1,0 +1,3 @@
+mod Borne
+pub mod Groups
+mod Limits

@@ -1,0 +1,4 @@
+pub mod Foreign
+pub mod Marks
+pub mod Own
+pub mod Ties
