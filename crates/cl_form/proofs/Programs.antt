@@ -8,7 +8,7 @@ use Rattle.cl_tree.specs.declared.tree.Item.TheVariants.{Cle}
 use Rattle.cl_tree.specs.declared.tree.Program.{Program}
 use Rattle.cl_tree.specs.Words.{Word}
 use Rattle.cl_mean.specs.declared.checked.Checked.{Checked}
-use Rattle.cl_front.specs.Source.{ReadsWithin}
+use Rattle.cl_read.specs.Source.{ReadsWithin}
 use Rattle.cl_form.specs.declared.names.Alone.{Alone}
 use Rattle.cl_form.specs.declared.names.Pair.{Pair}
 use Rattle.cl_form.specs.declared.names.Found.{Found}

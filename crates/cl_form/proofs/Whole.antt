@@ -2,10 +2,10 @@
 use Rattle.std.proofs.Common.{◌≡◌, ◌==◌, ℕ, Bool, true, false, if◌then◌else◌, List, length, refl, sym, subst, ap, ◌∙◌, Some, Result, Ok, Err, IfOk, MatchResult, inl, inr}
 use Rattle.cl_tree.specs.declared.tree.Program.{Program}
 use Rattle.cl_mean.specs.declared.checked.Checked.{Checked}
-use Rattle.cl_front.specs.Source.{ReadsWithin}
-use Rattle.cl_front.proofs.One as front
-use Rattle.cl_front.specs.declared.stop.FrontStop.{FrontStop}
-use Rattle.cl_front.specs.declared.stop.FrontStop.TheVariants as front_stop
+use Rattle.cl_read.specs.Source.{ReadsWithin}
+use Rattle.cl_read.proofs.One as front
+use Rattle.cl_read.specs.declared.stop.FrontStop.{FrontStop}
+use Rattle.cl_read.specs.declared.stop.FrontStop.TheVariants as front_stop
 use Rattle.cl_form.specs.declared.stop.FormStop.{FormStop}
 use Rattle.cl_form.specs.declared.stop.FormStop.TheVariants.{NoReading, NoMemory}
 use Rattle.cl_form.specs.Stops.{of_front}

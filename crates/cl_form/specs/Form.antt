@@ -25,7 +25,7 @@ use Rattle.cl_mean.specs.declared.checked.GedlRow.{GedlRow}
 use Rattle.cl_mean.specs.declared.checked.GedlRows.{GedlRows}
 use Rattle.cl_mean.specs.declared.checked.Typed.{Typed}
 use Rattle.cl_mean.specs.declared.checked.Checked.{Checked}
-use Rattle.cl_front.specs.Source.{ReadsWithin}
+use Rattle.cl_read.specs.Source.{ReadsWithin}
 use Rattle.cl_form.specs.declared.names.Pair.{Pair}
 
 -- ---- texts

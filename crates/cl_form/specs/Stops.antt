@@ -1,6 +1,6 @@
 -- The stops of the front end, as the reader of the forms has them.
-use Rattle.cl_front.specs.declared.stop.FrontStop.{FrontStop}
-use Rattle.cl_front.specs.declared.stop.FrontStop.TheVariants as front
+use Rattle.cl_read.specs.declared.stop.FrontStop.{FrontStop}
+use Rattle.cl_read.specs.declared.stop.FrontStop.TheVariants as front
 use Rattle.cl_form.specs.declared.stop.FormStop.{FormStop}
 use Rattle.cl_form.specs.declared.stop.FormStop.TheVariants.{NoReading, NoMemory}
 

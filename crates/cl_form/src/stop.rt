@@ -3,7 +3,7 @@
 ghost use Rattle.std.specs.Prelude.{◌≡◌};
 
 use cl_base::name::NoMemory;
-use cl_front::stop::FrontStop;
+use cl_read::stop::FrontStop;
 use std::alloc::AllocError;
 
 /// Why no program comes of a source.

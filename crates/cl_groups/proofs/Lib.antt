@@ -1,3 +1,4 @@
 mod Borne
+pub mod Firsts
 pub mod Groups
 mod Limits

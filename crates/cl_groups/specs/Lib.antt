@@ -1,4 +1,5 @@
 pub mod Foreign
+pub mod Grounds
 pub mod Marks
 pub mod Own
 pub mod Ties

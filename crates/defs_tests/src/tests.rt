@@ -2,7 +2,7 @@ mod sources;
 
 use crate::tests::sources::{REFUSED, TABLES};
 use cl_base::limits::SOURCE_BYTES;
-use cl_front::read::read_source;
+use cl_read::read::read_source;
 use cl_mean::checked::Typed;
 use cl_mean::labels::{LabelFact, LabelTable};
 use cl_sema::resolve::resolve;

@@ -11,8 +11,8 @@ mod spelling;
 mod values;
 
 use cl_base::limits::SOURCE_BYTES;
-use cl_front::read::read_source;
-use cl_front::stop::FrontStop;
+use cl_read::read::read_source;
+use cl_read::stop::FrontStop;
 use cl_tree::tree::Program;
 use std::alloc::Global;
 

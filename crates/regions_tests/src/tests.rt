@@ -2,7 +2,7 @@
 // the function's name, its line, and its label, where `-` is none. What is wanted is worked out by hand.
 
 use cl_base::limits::SOURCE_BYTES;
-use cl_front::read::read_source;
+use cl_read::read::read_source;
 use cl_regions::labels::Labels;
 use cl_regions::marks::{Marked, marks};
 use cl_regions::places::bad_region;

@@ -1,7 +1,7 @@
 // The type of `x` in `TYPE x;` (C11 6.7.2, 7.20.1.1).
 
 use super::read;
-use cl_front::stop::FrontStop;
+use cl_read::stop::FrontStop;
 use cl_tree::kinds::IntKind;
 use cl_tree::tree::{CType, Declarator, Item, Program};
 use std::alloc::Global;

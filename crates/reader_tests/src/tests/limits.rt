@@ -1,7 +1,7 @@
 // Sources at a limit, which are read, and one past it, which E23 refuses at the line of what passes it.
 
 use super::read;
-use cl_front::stop::FrontStop;
+use cl_read::stop::FrontStop;
 use std::alloc::{AllocError, Global};
 use std::test::Fail;
 

@@ -1,7 +1,7 @@
 // Sources that are refused, by which rule and at which line.
 
 use super::read;
-use cl_front::stop::FrontStop;
+use cl_read::stop::FrontStop;
 use std::alloc::Global;
 use std::test::Fail;
 

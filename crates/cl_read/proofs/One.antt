@@ -9,7 +9,7 @@ use Rattle.cl_lex.proofs.Cuts.{one_answer}
 use Rattle.cl_lex.proofs.Total.{an_answer}
 use Rattle.cl_parse.proofs.Reread as reread
 use Rattle.cl_parse.proofs.Answered.{one_side, same_failure}
-use Rattle.cl_front.specs.Source.{ReadsWithin, FailsFirst, HasProgram, HasFailure}
+use Rattle.cl_read.specs.Source.{ReadsWithin, FailsFirst, HasProgram, HasFailure}
 
 pub one_reading : (source : List ℕ) (p q : Program) → ReadsWithin source p → ReadsWithin source q → p ≡ q
 one_reading source p q h k =

@@ -1,5 +1,5 @@
-use Rattle.cl_front.proofs.One.{has_answer, one_side_only, one_failure}
-use Rattle.cl_front.proofs.read.one_answer.Goals as goal
+use Rattle.cl_read.proofs.One.{has_answer, one_side_only, one_failure}
+use Rattle.cl_read.proofs.read.one_answer.Goals as goal
 
 pub returns-clause-some : goal.returns-clause-some
 returns-clause-some c = has_answer

@@ -3,8 +3,8 @@
 ghost use Rattle.std.specs.Prelude.{◌≡◌, ◌⊎◌, ℕ, ◌≤◌, List, length, IfOk, IfErr, MatchResult};
 ghost use Rattle.cl_base.specs.declared.limits.TheConstants.{SOURCE_BYTES};
 ghost use Rattle.cl_tree.specs.declared.tree.Program.{Program as ProgramValue};
-ghost use Rattle.cl_front.specs.Source.{ReadsWithin, FailsFirst, HasProgram, HasFailure};
-ghost use Rattle.cl_front.specs.Answer.{IsFailure};
+ghost use Rattle.cl_read.specs.Source.{ReadsWithin, FailsFirst, HasProgram, HasFailure};
+ghost use Rattle.cl_read.specs.Answer.{IsFailure};
 
 use crate::stop::FrontStop;
 use cl_lex::lex::lex;

@@ -12,11 +12,11 @@ use Rattle.cl_lex.proofs.Cuts.{one_answer}
 use Rattle.cl_parse.specs.Answer as answer
 use Rattle.cl_parse.specs.declared.stop.ParseStop.{ParseStop}
 use Rattle.cl_parse.specs.declared.stop.ParseStop.TheVariants as reader
-use Rattle.cl_front.specs.Source.{ReadsWithin, FailsFirst}
-use Rattle.cl_front.specs.Stops.{of_lexer, of_reader}
-use Rattle.cl_front.specs.Answer.{IsFailure}
-use Rattle.cl_front.specs.declared.stop.FrontStop.{FrontStop}
-use Rattle.cl_front.specs.declared.stop.FrontStop.TheVariants.{Refused, NoMemory}
+use Rattle.cl_read.specs.Source.{ReadsWithin, FailsFirst}
+use Rattle.cl_read.specs.Stops.{of_lexer, of_reader}
+use Rattle.cl_read.specs.Answer.{IsFailure}
+use Rattle.cl_read.specs.declared.stop.FrontStop.{FrontStop}
+use Rattle.cl_read.specs.declared.stop.FrontStop.TheVariants.{Refused, NoMemory}
 
 -- unless memory ran out, the refusal is this one
 abbrev pub IsThis : ℕ → ℕ → FrontStop → Type 0

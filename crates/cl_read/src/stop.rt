@@ -16,7 +16,7 @@ pub enum FrontStop {
 }
 
 impl From<AllocError> for FrontStop {
-    ghost use Rattle.cl_front.specs.declared.stop.FrontStop.TheVariants.{NoMemory};
+    ghost use Rattle.cl_read.specs.declared.stop.FrontStop.TheVariants.{NoMemory};
 
     ghost from_gives = { λ e s. s ≡ NoMemory };
 
@@ -26,7 +26,7 @@ impl From<AllocError> for FrontStop {
 }
 
 impl From<NoMemory> for FrontStop {
-    ghost use Rattle.cl_front.specs.declared.stop.FrontStop.TheVariants.{NoMemory};
+    ghost use Rattle.cl_read.specs.declared.stop.FrontStop.TheVariants.{NoMemory};
 
     ghost from_gives = { λ e s. s ≡ NoMemory };
 
@@ -36,7 +36,7 @@ impl From<NoMemory> for FrontStop {
 }
 
 impl From<LexStop> for FrontStop {
-    ghost use Rattle.cl_front.specs.Stops.{of_lexer};
+    ghost use Rattle.cl_read.specs.Stops.{of_lexer};
 
     ghost from_gives = { λ e s. s ≡ of_lexer e };
 
@@ -49,7 +49,7 @@ impl From<LexStop> for FrontStop {
 }
 
 impl From<ParseStop> for FrontStop {
-    ghost use Rattle.cl_front.specs.Stops.{of_reader};
+    ghost use Rattle.cl_read.specs.Stops.{of_reader};
 
     ghost from_gives = { λ e s. s ≡ of_reader e };
 

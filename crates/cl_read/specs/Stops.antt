@@ -3,8 +3,8 @@ use Rattle.cl_lex.specs.declared.lex.LexStop.{LexStop}
 use Rattle.cl_lex.specs.declared.lex.LexStop.TheVariants as lexer
 use Rattle.cl_parse.specs.declared.stop.ParseStop.{ParseStop}
 use Rattle.cl_parse.specs.declared.stop.ParseStop.TheVariants as reader
-use Rattle.cl_front.specs.declared.stop.FrontStop.{FrontStop}
-use Rattle.cl_front.specs.declared.stop.FrontStop.TheVariants.{Refused, NoMemory}
+use Rattle.cl_read.specs.declared.stop.FrontStop.{FrontStop}
+use Rattle.cl_read.specs.declared.stop.FrontStop.TheVariants.{Refused, NoMemory}
 
 abbrev pub of_lexer : LexStop → FrontStop
 of_lexer (lexer.Rule rule line) = Refused rule line

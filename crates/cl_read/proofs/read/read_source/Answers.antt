@@ -1,7 +1,7 @@
 use Rattle.cl_tree.specs.Tokens.{AreTokens}
-use Rattle.cl_front.specs.Stops.{of_lexer, of_reader}
-use Rattle.cl_front.proofs.Stopped.{with_only, with_fails, with_rule, lexer_only, lexer_rule, reader_only, reader_fails, reader_rule, read_only, read_rule}
-use Rattle.cl_front.proofs.read.read_source.Goals as goal
+use Rattle.cl_read.specs.Stops.{of_lexer, of_reader}
+use Rattle.cl_read.proofs.Stopped.{with_only, with_fails, with_rule, lexer_only, lexer_rule, reader_only, reader_fails, reader_rule, read_only, read_rule}
+use Rattle.cl_read.proofs.read.read_source.Goals as goal
 
 pub returns-in_err-tokens-clause-only : goal.returns-in_err-tokens-clause-only
 returns-in_err-tokens-clause-only c = λ p h. with_only c.from_residual.result (of_lexer c.in_err-tokens.field-0.0) c.from_residual.ensures.1 p (lexer_only c.args.bytes.now c.in_err-tokens.field-0.0 c.in_err-tokens.ensures.all_found p h)

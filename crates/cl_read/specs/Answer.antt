@@ -1,8 +1,8 @@
 -- What the front end answers.
 use Rattle.std.specs.Prelude.{ℕ, List}
-use Rattle.cl_front.specs.Source.{FailsFirst}
-use Rattle.cl_front.specs.declared.stop.FrontStop.{FrontStop}
-use Rattle.cl_front.specs.declared.stop.FrontStop.TheVariants.{Refused, NoMemory}
+use Rattle.cl_read.specs.Source.{FailsFirst}
+use Rattle.cl_read.specs.declared.stop.FrontStop.{FrontStop}
+use Rattle.cl_read.specs.declared.stop.FrontStop.TheVariants.{Refused, NoMemory}
 
 -- a refusal names the first rule that fails, and its line
 abbrev pub IsFailure : List ℕ → FrontStop → Type 0

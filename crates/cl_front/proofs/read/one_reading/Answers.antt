@@ -1,5 +1,0 @@
-use Rattle.cl_front.proofs.One as one
-use Rattle.cl_front.proofs.read.one_reading.Goals as goal
-
-pub returns : goal.returns
-returns c = one.one_reading
