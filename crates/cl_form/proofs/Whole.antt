@@ -4,8 +4,8 @@ use Rattle.cl_tree.specs.declared.tree.Program.{Program}
 use Rattle.cl_mean.specs.declared.checked.Checked.{Checked}
 use Rattle.cl_read.specs.Source.{ReadsWithin}
 use Rattle.cl_read.proofs.One as front
-use Rattle.cl_read.specs.declared.stop.FrontStop.{FrontStop}
-use Rattle.cl_read.specs.declared.stop.FrontStop.TheVariants as front_stop
+use Rattle.cl_read.specs.declared.stop.ReadStop.{ReadStop}
+use Rattle.cl_read.specs.declared.stop.ReadStop.TheVariants as front_stop
 use Rattle.cl_form.specs.declared.stop.FormStop.{FormStop}
 use Rattle.cl_form.specs.declared.stop.FormStop.TheVariants.{NoReading, NoMemory}
 use Rattle.cl_form.specs.Stops.{of_front}
@@ -57,5 +57,5 @@ code_only source p (Err NoMemory) h g c k = refl
 code_only source p (Err NoReading) h g c k = let r = read_complete source p c h k in absurd cc
 
 -- what a stop of the front end says
-pub stop_only : (source : List ℕ) (s : FrontStop) → ((p : Program) → ReadsWithin source p → s ≡ front_stop.NoMemory) → (c : Checked) → HasForm source c → of_front s ≡ NoMemory
+pub stop_only : (source : List ℕ) (s : ReadStop) → ((p : Program) → ReadsWithin source p → s ≡ front_stop.NoMemory) → (c : Checked) → HasForm source c → of_front s ≡ NoMemory
 stop_only source s only c k = let r = form_read source c k in ap of_front (only r.program r.reads)

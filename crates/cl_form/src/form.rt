@@ -9,8 +9,8 @@ ghost use Rattle.cl_form.specs.Reading.{Gives, read_program};
 use crate::alone::read_alone;
 use crate::pair::read_pair;
 use crate::stop::FormStop;
-use cl_read::read::read_source;
 use cl_mean::checked::Checked;
+use cl_read::read::read_source;
 use cl_tree::tree::Program;
 use std::alloc::Global;
 

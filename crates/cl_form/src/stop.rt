@@ -3,7 +3,7 @@
 ghost use Rattle.std.specs.Prelude.{◌≡◌};
 
 use cl_base::name::NoMemory;
-use cl_read::stop::FrontStop;
+use cl_read::stop::ReadStop;
 use std::alloc::AllocError;
 
 /// Why no program comes of a source.
@@ -35,15 +35,15 @@ impl From<NoMemory> for FormStop {
     }
 }
 
-impl From<FrontStop> for FormStop {
+impl From<ReadStop> for FormStop {
     ghost use Rattle.cl_form.specs.Stops.{of_front};
 
     ghost from_gives = { λ e s. s ≡ of_front e };
 
-    fn from(stop: FrontStop) -> FormStop {
+    fn from(stop: ReadStop) -> FormStop {
         match stop {
-            FrontStop::Refused { .. } => FormStop::NoReading,
-            FrontStop::NoMemory => FormStop::NoMemory,
+            ReadStop::Refused { .. } => FormStop::NoReading,
+            ReadStop::NoMemory => FormStop::NoMemory,
         }
     }
 }

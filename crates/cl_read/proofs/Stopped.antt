@@ -15,23 +15,23 @@ use Rattle.cl_parse.specs.declared.stop.ParseStop.TheVariants as reader
 use Rattle.cl_read.specs.Source.{ReadsWithin, FailsFirst}
 use Rattle.cl_read.specs.Stops.{of_lexer, of_reader}
 use Rattle.cl_read.specs.Answer.{IsFailure}
-use Rattle.cl_read.specs.declared.stop.FrontStop.{FrontStop}
-use Rattle.cl_read.specs.declared.stop.FrontStop.TheVariants.{Refused, NoMemory}
+use Rattle.cl_read.specs.declared.stop.ReadStop.{ReadStop}
+use Rattle.cl_read.specs.declared.stop.ReadStop.TheVariants.{Refused, NoMemory}
 
 -- unless memory ran out, the refusal is this one
-abbrev pub IsThis : ℕ → ℕ → FrontStop → Type 0
+abbrev pub IsThis : ℕ → ℕ → ReadStop → Type 0
 IsThis rule line s = (s ≡ Refused rule line) ⊎ (s ≡ NoMemory)
 
 -- From the stop to the result that has it.
-pub with_only : (r : Result Program FrontStop) (s : FrontStop) → IsErrAnd r (λ t. t ≡ s) → (p : Program) → s ≡ NoMemory → MatchResult r (λ x. x ≡ p) (λ e. e ≡ NoMemory)
+pub with_only : (r : Result Program ReadStop) (s : ReadStop) → IsErrAnd r (λ t. t ≡ s) → (p : Program) → s ≡ NoMemory → MatchResult r (λ x. x ≡ p) (λ e. e ≡ NoMemory)
 with_only (Ok x) s h p m = absurd h
 with_only (Err t) s h p m = cc
 
-pub with_fails : (r : Result Program FrontStop) (s : FrontStop) → IsErrAnd r (λ t. t ≡ s) → (source : List ℕ) → IsFailure source s → IfErr r (λ e. IsFailure source e)
+pub with_fails : (r : Result Program ReadStop) (s : ReadStop) → IsErrAnd r (λ t. t ≡ s) → (source : List ℕ) → IsFailure source s → IfErr r (λ e. IsFailure source e)
 with_fails (Ok x) s h source f = absurd h
 with_fails (Err t) s h source f = rw h f
 
-pub with_rule : (r : Result Program FrontStop) (s : FrontStop) → IsErrAnd r (λ t. t ≡ s) → (rule line : ℕ) → IsThis rule line s → MatchResult r (λ x. ⊥) (λ e. IsThis rule line e)
+pub with_rule : (r : Result Program ReadStop) (s : ReadStop) → IsErrAnd r (λ t. t ≡ s) → (rule line : ℕ) → IsThis rule line s → MatchResult r (λ x. ⊥) (λ e. IsThis rule line e)
 with_rule (Ok x) s h rule line f = absurd h
 with_rule (Err t) s h rule line f = rw h f
 

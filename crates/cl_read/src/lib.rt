@@ -1,4 +1,4 @@
-//! The front end: from the bytes of a source to its program.
+//! The lexer and the reader as one call: from the bytes of a source to its program.
 #![tactic(auto)]
 
 pub mod read;

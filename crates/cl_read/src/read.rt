@@ -6,7 +6,7 @@ ghost use Rattle.cl_tree.specs.declared.tree.Program.{Program as ProgramValue};
 ghost use Rattle.cl_read.specs.Source.{ReadsWithin, FailsFirst, HasProgram, HasFailure};
 ghost use Rattle.cl_read.specs.Answer.{IsFailure};
 
-use crate::stop::FrontStop;
+use crate::stop::ReadStop;
 use cl_lex::lex::lex;
 use cl_parse::reader::parse;
 use cl_tree::tree::Program;
@@ -15,16 +15,16 @@ use std::alloc::Global;
 /// The program that the bytes of a source spell (C11 5.1.1.2, 6.4 and 6.9, as far as the profile goes).
 /// It is refused by the first lexical rule that it breaks (E02 to E05 and E07), at the line of its first
 /// failing place; else by E23 or E06, at the line that the reader names.
-pub fn read_source(alloc: Global, bytes: &[u8]) -> Result<Program, FrontStop>
+pub fn read_source(alloc: Global, bytes: &[u8]) -> Result<Program, ReadStop>
     requires { length bytes.now ≤ SOURCE_BYTES }
     // What is read is what the bytes spell, within the limits.
     ensures found { IfOk result (λ p. ReadsWithin bytes.now p) }
     // What the bytes spell is read, unless memory runs out.
-    ensures only { (p : ProgramValue) → ReadsWithin bytes.now p → MatchResult result (λ x. x ≡ p) (λ e. e ≡ FrontStop.NoMemory) }
+    ensures only { (p : ProgramValue) → ReadsWithin bytes.now p → MatchResult result (λ x. x ≡ p) (λ e. e ≡ ReadStop.NoMemory) }
     // A refusal names the first rule that fails, and its line.
     ensures fails { IfErr result (λ e. IsFailure bytes.now e) }
     // Where a rule fails there is no program, and the refusal names that rule.
-    ensures rule { (rule line : ℕ) → FailsFirst bytes.now rule line → MatchResult result (λ _. ⊥) (λ e. (e ≡ FrontStop.Refused rule line) ⊎ (e ≡ FrontStop.NoMemory)) }
+    ensures rule { (rule line : ℕ) → FailsFirst bytes.now rule line → MatchResult result (λ _. ⊥) (λ e. (e ≡ ReadStop.Refused rule line) ⊎ (e ≡ ReadStop.NoMemory)) }
 {
     let tokens = lex(alloc, bytes)?;
     Ok(parse(alloc, tokens.as_slice())?)

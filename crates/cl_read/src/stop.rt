@@ -1,4 +1,4 @@
-//! How the front end ends without a program.
+//! How reading ends without a program.
 
 ghost use Rattle.std.specs.Prelude.{◌≡◌};
 
@@ -8,55 +8,55 @@ use cl_parse::stop::ParseStop;
 use std::alloc::AllocError;
 
 #[derive(Clone, Copy, Debug, PartialEq, Eq)]
-pub enum FrontStop {
+pub enum ReadStop {
     /// The source breaks the rule of this number, at this line.
     Refused { rule: u8, line: u32 },
     /// Memory ran out.
     NoMemory,
 }
 
-impl From<AllocError> for FrontStop {
-    ghost use Rattle.cl_read.specs.declared.stop.FrontStop.TheVariants.{NoMemory};
+impl From<AllocError> for ReadStop {
+    ghost use Rattle.cl_read.specs.declared.stop.ReadStop.TheVariants.{NoMemory};
 
     ghost from_gives = { λ e s. s ≡ NoMemory };
 
-    fn from(_error: AllocError) -> FrontStop {
-        FrontStop::NoMemory
+    fn from(_error: AllocError) -> ReadStop {
+        ReadStop::NoMemory
     }
 }
 
-impl From<NoMemory> for FrontStop {
-    ghost use Rattle.cl_read.specs.declared.stop.FrontStop.TheVariants.{NoMemory};
+impl From<NoMemory> for ReadStop {
+    ghost use Rattle.cl_read.specs.declared.stop.ReadStop.TheVariants.{NoMemory};
 
     ghost from_gives = { λ e s. s ≡ NoMemory };
 
-    fn from(_error: NoMemory) -> FrontStop {
-        FrontStop::NoMemory
+    fn from(_error: NoMemory) -> ReadStop {
+        ReadStop::NoMemory
     }
 }
 
-impl From<LexStop> for FrontStop {
+impl From<LexStop> for ReadStop {
     ghost use Rattle.cl_read.specs.Stops.{of_lexer};
 
     ghost from_gives = { λ e s. s ≡ of_lexer e };
 
-    fn from(stop: LexStop) -> FrontStop {
+    fn from(stop: LexStop) -> ReadStop {
         match stop {
-            LexStop::Rule { rule, line } => FrontStop::Refused { rule, line },
-            LexStop::NoMemory => FrontStop::NoMemory,
+            LexStop::Rule { rule, line } => ReadStop::Refused { rule, line },
+            LexStop::NoMemory => ReadStop::NoMemory,
         }
     }
 }
 
-impl From<ParseStop> for FrontStop {
+impl From<ParseStop> for ReadStop {
     ghost use Rattle.cl_read.specs.Stops.{of_reader};
 
     ghost from_gives = { λ e s. s ≡ of_reader e };
 
-    fn from(stop: ParseStop) -> FrontStop {
+    fn from(stop: ParseStop) -> ReadStop {
         match stop {
-            ParseStop::Rule { rule, line } => FrontStop::Refused { rule, line },
-            ParseStop::NoMemory => FrontStop::NoMemory,
+            ParseStop::Rule { rule, line } => ReadStop::Refused { rule, line },
+            ParseStop::NoMemory => ReadStop::NoMemory,
         }
     }
 }

@@ -2,9 +2,9 @@ mod sources;
 
 use crate::tests::sources::{REFUSED, TABLES};
 use cl_base::limits::SOURCE_BYTES;
-use cl_read::read::read_source;
 use cl_mean::checked::Typed;
 use cl_mean::labels::{LabelFact, LabelTable};
+use cl_read::read::read_source;
 use cl_sema::resolve::resolve;
 use cle_defs::labels::labels;
 use cle_defs::stop::CleStop;

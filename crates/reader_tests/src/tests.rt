@@ -12,14 +12,14 @@ mod values;
 
 use cl_base::limits::SOURCE_BYTES;
 use cl_read::read::read_source;
-use cl_read::stop::FrontStop;
+use cl_read::stop::ReadStop;
 use cl_tree::tree::Program;
 use std::alloc::Global;
 
-fn read(alloc: Global, source: &str) -> Result<Program, FrontStop> {
+fn read(alloc: Global, source: &str) -> Result<Program, ReadStop> {
     let bytes = source.as_bytes();
     if bytes.len() > SOURCE_BYTES {
-        return Err(FrontStop::NoMemory);
+        return Err(ReadStop::NoMemory);
     }
     read_source(alloc, bytes)
 }

@@ -8,8 +8,8 @@ mod programs;
 mod types;
 
 use cl_base::limits::SOURCE_BYTES;
-use cl_read::read::read_source;
 use cl_mean::checked::Typed;
+use cl_read::read::read_source;
 use cl_sema::resolve::resolve;
 use cl_sema::stop::SemaStop;
 use std::alloc::{AllocError, Global};

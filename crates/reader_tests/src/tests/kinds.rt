@@ -1,7 +1,7 @@
 // The type of `x` in `TYPE x;` (C11 6.7.2, 7.20.1.1).
 
 use super::read;
-use cl_read::stop::FrontStop;
+use cl_read::stop::ReadStop;
 use cl_tree::kinds::IntKind;
 use cl_tree::tree::{CType, Declarator, Item, Program};
 use std::alloc::Global;
@@ -39,8 +39,8 @@ fn declared(alloc: Global, spelling: &str) -> Result<Found, Fail> {
     let source = format!(in alloc; "{spelling} x;")?;
     match read(alloc, source.as_str()) {
         Ok(program) => Ok(variable(&program)),
-        Err(FrontStop::Refused { rule, .. }) => Ok(Found::Refused(rule)),
-        Err(FrontStop::NoMemory) => Ok(Found::NoMemory),
+        Err(ReadStop::Refused { rule, .. }) => Ok(Found::Refused(rule)),
+        Err(ReadStop::NoMemory) => Ok(Found::NoMemory),
     }
 }
 

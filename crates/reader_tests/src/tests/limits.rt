@@ -1,7 +1,7 @@
 // Sources at a limit, which are read, and one past it, which E23 refuses at the line of what passes it.
 
 use super::read;
-use cl_read::stop::FrontStop;
+use cl_read::stop::ReadStop;
 use std::alloc::{AllocError, Global};
 use std::test::Fail;
 
@@ -48,7 +48,7 @@ fn add(source: &mut String, times: u32, unit: &str) -> Result<(), AllocError> {
 fn passed(alloc: Global, source: &str) -> Option<u32> {
     match read(alloc, source) {
         Ok(_) => None,
-        Err(FrontStop::Refused { rule: 23, line }) => Some(line),
+        Err(ReadStop::Refused { rule: 23, line }) => Some(line),
         Err(_) => Some(0),
     }
 }

@@ -1,7 +1,7 @@
 // Sources that are refused, by which rule and at which line.
 
 use super::read;
-use cl_read::stop::FrontStop;
+use cl_read::stop::ReadStop;
 use std::alloc::Global;
 use std::test::Fail;
 
@@ -9,7 +9,7 @@ use std::test::Fail;
 fn differs<'a>(alloc: Global, rows: &'a [(&str, u8, u32)]) -> Option<&'a str> {
     for (source, rule, line) in rows {
         let (rule, line) = (*rule, *line);
-        if read(alloc, source).err() != Some(FrontStop::Refused { rule, line }) {
+        if read(alloc, source).err() != Some(ReadStop::Refused { rule, line }) {
             return Some(source);
         }
     }
@@ -92,7 +92,7 @@ const STATEMENTS: [&str; 32] = [
 
 // The first statement that is read in the body of a function, which begins on line 2.
 fn passes<'a>(alloc: Global, statements: &'a [&str]) -> Result<Option<&'a str>, Fail> {
-    let stop = FrontStop::Refused { rule: 6, line: 2 };
+    let stop = ReadStop::Refused { rule: 6, line: 2 };
     for statement in statements {
         let source = format!(in alloc; "int a;\nint main(void) {{\n{statement}\n}}")?;
         if read(alloc, source.as_str()).err() != Some(stop) {
