@@ -65,3 +65,18 @@ module _ (carried : List (List ℕ)) (own : List (Option ℕ)) (lines : List ℕ
       same_least (λ n. Conflict carried own lines odd k n ⊎ Here k n) (Conflict carried own lines odd (k + 1))
       (λ n c. ⊎_elim (λ p. widen k n p) (λ q. here k n q) c) (λ n c. split k n c) (lesser_of first (Some line))
       (least_of_two (Conflict carried own lines odd k) (Here k) first line h (free refl, (two refl, sym is)) (λ n q. sym q.1.1 ∙ sym is))
+
+-- the lesser of two least numbers
+pub least_of_either : (P Q : ℕ → Type 0) (a b : Option ℕ) → IsLeast P a → IsLeast Q b → IsLeast (λ n. P n ⊎ Q n) (lesser_of a b)
+least_of_either P Q None None f g = λ n c. ⊎_elim (λ p. f n p) (λ q. g n q) c
+least_of_either P Q None (Some y) f g = (inr g.0, λ n c. ⊎_elim (λ p. absurd (f n p)) (λ q. g.1 n q) c)
+least_of_either P Q (Some x) None f g = (inl f.0, λ n c. ⊎_elim (λ p. f.1 n p) (λ q. absurd (g n q)) c)
+least_of_either P Q (Some x) (Some y) f g = (by (cases_lt y x), below)
+  where
+    by : (y < x) ⊎ (x ≤ y) → P (min x y) ⊎ Q (min x y)
+    by (inl l) = inr (subst Q (omega arith) g.0)
+    by (inr l) = inl (subst P (omega arith) f.0)
+
+    below : (n : ℕ) → P n ⊎ Q n → min x y ≤ n
+    below n (inl p) = let l = f.1 n p in omega arith
+    below n (inr q) = let l = g.1 n q in omega arith

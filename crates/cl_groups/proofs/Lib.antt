@@ -1,4 +1,4 @@
-mod Borne
+pub mod Borne
 pub mod Firsts
 pub mod Groups
 mod Limits

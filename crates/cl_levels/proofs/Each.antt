@@ -1,5 +1,5 @@
 -- What the lists that uses give contain.
-use Rattle.std.proofs.Common.{◌≡◌, ℕ, zero, suc, ◌+◌, ◌<◌, ◌⊎◌, inl, inr, ⊎_elim, List, [], ◌∷◌, ◌++◌, length, get_or, slice_index_or, refl, sym, subst, arith}
+use Rattle.std.proofs.Common.{◌≡◌, ℕ, zero, suc, ◌+◌, ◌<◌, ◌⊎◌, inl, inr, ⊎_elim, List, [], ◌∷◌, ◌++◌, length, get_or, slice_index_or, refl, sym, ap, subst, ◌∙◌, arith}
 use Rattle.std.proofs.lemmas.List.Elements.{Contains-append_cases, Contains-append_left, Contains-append_right}
 use Rattle.std.specs.List.{Contains, flat_map}
 use Rattle.cl_levels.specs.declared.uses.Use.{Use}
@@ -62,3 +62,14 @@ to_each gives f (us ∷ uss) zero used a h c =
 to_each gives f (us ∷ uss) (suc i) used a h c =
     Contains-append_right (flat_map (gives f) us) (each_from gives (suc f) uss) a
     (to_each gives (suc f) uss i used a h (subst (λ (n : ℕ). Contains (gives n used) a) (omega arith) c))
+
+flat_same : {A B : Type 0} (f g : B → List A) → ((x : B) → f x ≡ g x) → (xs : List B) → flat_map f xs ≡ flat_map g xs
+flat_same f g e [] = refl
+flat_same f g e (x ∷ xs) = ap (λ ys. ys ++ flat_map f xs) (e x) ∙ ap (λ ys. g x ++ ys) (flat_same f g e xs)
+
+-- lists that give the same for each use
+pub each_same : {A : Type 0} (gives other : ℕ → Use → List A) → ((f : ℕ) (u : Use) → gives f u ≡ other f u) → (f : ℕ) (uss : List (List Use)) → each_from gives f uss ≡ each_from other f uss
+unfolding each_from
+each_same gives other e f [] = refl
+each_same gives other e f (us ∷ uss) =
+    ap (λ ys. ys ++ each_from gives (suc f) uss) (flat_same (gives f) (other f) (e f) us) ∙ ap (λ ys. flat_map (other f) us ++ ys) (each_same gives other e (suc f) uss)

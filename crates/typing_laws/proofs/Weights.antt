@@ -30,7 +30,7 @@ abbrev pub weigh : (Counted → ℕ) → List Counted → ℕ
 weigh f [] = 0
 weigh f (c ∷ cs) = f c + weigh f cs
 
-weigh_app : (f : Counted → ℕ) (xs ys : List Counted) → weigh f (xs ++ ys) ≡ weigh f xs + weigh f ys
+pub weigh_app : (f : Counted → ℕ) (xs ys : List Counted) → weigh f (xs ++ ys) ≡ weigh f xs + weigh f ys
 weigh_app f [] ys = omega arith
 weigh_app f (x ∷ xs) ys = let e : weigh f (xs ++ ys) ≡ weigh f xs + weigh f ys = weigh_app f xs ys in omega arith
 
@@ -83,7 +83,7 @@ functions_grow t (a_label line) e h = (omega arith, omega arith)
 functions_grow t (a_function line size) e h = (refl, leb-true (t.functions + 1) 4096 (both _ _ e).0)
 functions_grow t (an_object line size) e h = (omega arith, omega arith)
 
-objects_grow : Grows (λ t. t.objects) (by_size (λ n. 1)) 4096
+pub objects_grow : Grows (λ t. t.objects) (by_size (λ n. 1)) 4096
 objects_grow t (a_struct line) e h = (omega arith, omega arith)
 objects_grow t (a_label line) e h = (omega arith, omega arith)
 objects_grow t (a_function line size) e h = (omega arith, omega arith)
@@ -95,7 +95,7 @@ integers_grow t (a_label line) e h = (omega arith, omega arith)
 integers_grow t (a_function line size) e h = (omega arith, omega arith)
 integers_grow t (an_object line size) e h = (refl, leb-true (t.integers + size) 1048576 (both _ _ (both _ _ e).1).1)
 
-program_bounded : (program : Program) → too_large program ≡ [] → (g : Totals → ℕ) (f : Counted → ℕ) (limit : ℕ) → Grows g f limit → g no_totals ≡ 0 → weigh f (in_items [] program.items) ≤ limit
+pub program_bounded : (program : Program) → too_large program ≡ [] → (g : Totals → ℕ) (f : Counted → ℕ) (limit : ℕ) → Grows g f limit → g no_totals ≡ 0 → weigh f (in_items [] program.items) ≤ limit
 unfolding too_large
 program_bounded program e g f limit grows z =
     let b : g no_totals + weigh f (in_items [] program.items) ≤ limit = bounded g f limit grows no_totals (in_items [] program.items) e (omega arith) in
@@ -112,7 +112,7 @@ module _ (w : ℕ → ℕ) (sizes : List Size) where
   names_app [] ys = omega arith
   names_app (x ∷ xs) ys = let e : of_names (xs ++ ys) ≡ of_names xs + of_names ys = names_app xs ys in omega arith
 
-  objects_weigh : (ds : List Declarator) → weigh (by_size w) (objects sizes ds) ≡ of_names ds
+  pub objects_weigh : (ds : List Declarator) → weigh (by_size w) (objects sizes ds) ≡ of_names ds
   unfolding objects
   objects_weigh [] = refl
   objects_weigh (d ∷ ds) = ap (λ n. w (size_of sizes d.ctype) + n) (objects_weigh ds)

@@ -1,0 +1,5 @@
+pub mod Answered
+pub mod Crossed
+mod Given
+mod Laws
+mod Steps

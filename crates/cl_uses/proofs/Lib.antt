@@ -1,0 +1,5 @@
+pub mod Places
+pub mod Kept
+pub mod Behind
+pub mod Numbers
+pub mod Steps

@@ -1,0 +1,4 @@
+pub mod Table
+pub mod Spots
+pub mod Behind
+pub mod Numbers

@@ -1,0 +1,4 @@
+//! Laws of what the functions of a program use.
+#![tactic(auto)]
+
+pub mod laws;
