@@ -10,6 +10,7 @@ use cl_base::outside::Files;
 use cl_forbidden::stmts::look_program as look_for_tokens;
 use cl_large::items::look_program as look_for_sizes;
 use cl_lex::lex::lex;
+use cl_mean::checked::Typed;
 use cl_parse::reader::parse;
 use cl_scope::stop::Stop;
 use cl_sema::ends::look_program as look_for_ends;
@@ -20,6 +21,8 @@ use cl_twice::items::look_program as look_for_second;
 use cl_typing::sought::Sought;
 use cl_unknown::items::look_program as look_for_unknown;
 use cl_wrong::items::look_program as look_for_types;
+use cle_defs::labels::labels;
+use cle_defs::stop::CleStop;
 use std::thread::{Builder, Promise, Threads};
 use std::time::Instant;
 use std::{env, io};
@@ -62,13 +65,25 @@ fn rules(rt: &HostRuntime, program: &Program) -> io::Result<()> {
     looked(rt, "E22", start, look_for_ends(program))
 }
 
-/// Times all rules together, with the facts.
+/// Times the rules of labels together, with the table.
+fn labelled(rt: &HostRuntime, typed: &Typed) -> io::Result<()> {
+    let start = Instant::now(rt)?;
+    let answer = labels(rt.alloc(), typed);
+    told(rt, "labels", start)?;
+    match answer {
+        Ok(_) => println!(rt; ": labelled"),
+        Err(CleStop::Rule { rule, line }) => println!(rt; ": rule {rule} fails at line {line}"),
+        Err(CleStop::NoMemory) => println!(rt; ": out of memory"),
+    }
+}
+
+/// Times all rules of names, types and sizes together, with the facts, and then those of labels.
 fn whole(rt: &HostRuntime, program: Program) -> io::Result<()> {
     let start = Instant::now(rt)?;
     let answer = resolve(rt.alloc(), program);
     told(rt, "resolve", start)?;
     match answer {
-        Ok(_) => println!(rt; ": typed"),
+        Ok(typed) => labelled(rt, &typed),
         Err(SemaStop::Rule { rule, line }) => println!(rt; ": rule {rule} fails at line {line}"),
         Err(SemaStop::NoMemory) => println!(rt; ": out of memory"),
     }

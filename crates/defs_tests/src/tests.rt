@@ -1,6 +1,6 @@
 mod sources;
 
-use crate::tests::sources::{REFUSED, TABLES};
+use crate::tests::sources::{REFUSED, RIGHT_KINDS, TABLES, WRONG_KINDS};
 use cl_base::limits::SOURCE_BYTES;
 use cl_mean::checked::Typed;
 use cl_mean::labels::{LabelFact, LabelTable};
@@ -145,5 +145,89 @@ fn the_first_rule_that_fails_is_named(rt: HostRuntime) -> Result<(), Fail> {
 #[test]
 fn sources_have_their_tables(rt: HostRuntime) -> Result<(), Fail> {
     assert_eq!(rt; mistabled(rt.alloc())?, None);
+    Ok(())
+}
+
+/// A source whose second line defines a label by a text.
+fn defining(alloc: Global, text: &str) -> Result<String, AllocError> {
+    format!(in alloc;
+        "#pragma cle def P {{\"level\":\"purple\"}}\n#pragma cle def Q {text}\nint main(void) {{ return 0; }}\n"
+    )
+}
+
+/// The first text whose definition ends otherwise.
+fn misdefined(
+    alloc: Global,
+    texts: &[&str],
+    wanted: Option<End>,
+) -> Result<Option<usize>, AllocError> {
+    for (place, text) in texts.iter().enumerate() {
+        let source = defining(alloc, text)?;
+        if end_of(alloc, source.as_str()) != wanted {
+            return Ok(Some(place));
+        }
+    }
+    Ok(None)
+}
+
+#[test]
+fn a_key_of_the_wrong_kind_is_a_wrong_shape(rt: HostRuntime) -> Result<(), Fail> {
+    let wrong = Some(End::Fails { rule: 11, line: 2 });
+    assert_eq!(rt; misdefined(rt.alloc(), &WRONG_KINDS, wrong)?, None);
+    assert_eq!(rt; misdefined(rt.alloc(), &RIGHT_KINDS, None)?, None);
+    Ok(())
+}
+
+const LABELS: u32 = 1024;
+
+const ITEMS: u32 = 4096;
+
+/// As many definitions and variables as a source may have, each variable with a label of its own, behind as many regions in each
+/// other.
+fn largest(alloc: Global) -> Result<String, AllocError> {
+    let mut text = String::new(alloc);
+    for k in 0..LABELS {
+        let line = format!(in alloc; "#pragma cle def L{k} {{\"level\":\"purple\"}}\n")?;
+        text.push_str(line.as_str())?;
+    }
+    for k in 0..ITEMS {
+        let line = format!(in alloc; "#pragma cle begin L{}\n", k % LABELS)?;
+        text.push_str(line.as_str())?;
+    }
+    for k in 0..ITEMS {
+        let line = format!(in alloc; "#pragma cle end L{}\n", k % LABELS)?;
+        text.push_str(line.as_str())?;
+    }
+    for k in 0..ITEMS {
+        let line = format!(in alloc; "#pragma cle L{}\nint x{k};\n", k % LABELS)?;
+        text.push_str(line.as_str())?;
+    }
+    text.push_str("int main(void) { return 0; }\n")?;
+    Ok(text)
+}
+
+/// The first object that hasn't the label of its pragma.
+fn mislabelled(labels: &[Option<u32>]) -> Option<usize> {
+    for (k, label) in labels.iter().enumerate() {
+        if k > u32::MAX as usize || *label != Some(k as u32 % LABELS) {
+            return Some(k);
+        }
+    }
+    None
+}
+
+#[test]
+fn the_largest_source_has_its_table(rt: HostRuntime) -> Result<(), Fail> {
+    let alloc = rt.alloc();
+    let source = largest(alloc)?;
+    let Ok(table) = table(alloc, source.as_str()) else {
+        assert!(rt; false, "a table");
+        return Ok(());
+    };
+    assert_eq!(rt; table.levels.len(), 1);
+    assert_eq!(rt; table.labels.len(), LABELS as usize);
+    assert_eq!(rt; table.on_functions.len(), 1);
+    assert_eq!(rt; table.on_objects.len(), ITEMS as usize);
+    assert_eq!(rt; mislabelled(table.on_objects.as_slice()), None);
     Ok(())
 }
