@@ -7,6 +7,7 @@ use cl_base::name::NoMemory;
 use cl_mean::outcome::Trap;
 use cl_tree::kinds::IntKind::{I32, LLong, U8, U32};
 use cl_tree::kinds::{BinOp, IntKind, TrapCause, UnOp};
+use en_fused::reading::entries;
 use en_image::image::{Entrance, Image, Payload};
 use en_image::instr::Form;
 use en_image::instr::Instr::{self, *};
@@ -99,7 +100,7 @@ const ASKED: Option<Stopped> = Some(Stopped::Asks(0));
 
 const SPENT: Option<Stopped> = Some(Stopped::Spent);
 
-/// A row runs over the input `ab`, with 2 steps and at most 1,000 instructions.
+/// A row runs over the input `ab`, with 2 steps and at most 1,000 instructions, one by one.
 fn stops_as_told(alloc: Global, row: &Row) -> Result<bool, NoMemory> {
     let (code, stopped, values, output) = row;
     let image = image(alloc, code, 5)?;
@@ -112,9 +113,23 @@ fn stops_as_told(alloc: Global, row: &Row) -> Result<bool, NoMemory> {
     )
 }
 
+/// The same, with whole sequences carried out at once.
+fn stops_at_once(alloc: Global, row: &Row) -> Result<bool, NoMemory> {
+    let (code, stopped, values, output) = row;
+    let image = image(alloc, code, 5)?;
+    let entries = entries(alloc, image.code.as_slice())?;
+    let mut engine = Engine::open(alloc, &image, 2)?;
+    engine.begin(&image, image.entrance(Some(0)), &[]);
+    Ok(
+        engine.run_fused(&image, b"ab", entries.as_slice(), 1000) == *stopped
+            && engine.values() == *values
+            && engine.output() == *output,
+    )
+}
+
 fn first_wrong(alloc: Global, rows: &[Row]) -> Result<Option<usize>, NoMemory> {
     for (i, row) in rows.iter().enumerate() {
-        if !stops_as_told(alloc, row)? {
+        if !stops_as_told(alloc, row)? || !stops_at_once(alloc, row)? {
             return Ok(Some(i));
         }
     }
@@ -619,6 +634,197 @@ const STUCK: [Row; 37] = [
     ),
 ];
 
+const LESS: Instr = Two {
+    op: BinOp::Less,
+    kind: I32,
+    line: 2,
+};
+
+const SUM: Instr = Two {
+    op: BinOp::Add,
+    kind: I32,
+    line: 3,
+};
+
+const DIFFERENCE: Instr = Two {
+    op: BinOp::Sub,
+    kind: LLong,
+    line: 4,
+};
+
+const UNSIGNED: Instr = Two {
+    op: BinOp::Sub,
+    kind: U32,
+    line: 5,
+};
+
+// Assignments and tests as a compiler writes them: some go on at once, and some come to a number out of its kind.
+const SEQUENCES: [Row; 11] = [
+    (
+        &[
+            Local(0),
+            Push(5),
+            Push(7),
+            SUM,
+            Store(1),
+            Local(0),
+            Fetch(1),
+            Return(1),
+        ],
+        ENDED,
+        &[12],
+        b"",
+    ),
+    (
+        &[
+            Local(1),
+            Push(200),
+            Push(100),
+            SUM,
+            Convert(U8),
+            Store(1),
+            Local(1),
+            Fetch(1),
+            Return(1),
+        ],
+        ENDED,
+        &[44],
+        b"",
+    ),
+    (
+        &[
+            Local(0),
+            Push(1),
+            Push(1),
+            SUM,
+            Store(1),
+            Jump(7),
+            Return(0),
+            Local(0),
+            Fetch(1),
+            Return(1),
+        ],
+        ENDED,
+        &[2],
+        b"",
+    ),
+    (
+        &[Local(0), Push(2_147_483_647), Push(1), SUM, Store(1)],
+        Some(Stopped::Trapped(Trap {
+            cause: TrapCause::Overflow,
+            line: 3,
+        })),
+        &[],
+        b"",
+    ),
+    (
+        &[
+            Step(1),
+            Push(2),
+            Push(1),
+            LESS,
+            Zero(7),
+            Push(9),
+            Return(1),
+            Push(8),
+            Return(1),
+        ],
+        ENDED,
+        &[8],
+        b"",
+    ),
+    (
+        &[Step(1), Step(2), Step(3), Push(1), Push(2), LESS, Zero(0)],
+        Some(Stopped::Trapped(Trap {
+            cause: TrapCause::Steps,
+            line: 3,
+        })),
+        &[],
+        b"",
+    ),
+    (
+        &[
+            Local(0),
+            Local(1),
+            Fetch(1),
+            Convert(LLong),
+            Push(4),
+            DIFFERENCE,
+            Store(1),
+            Local(0),
+            Fetch(1),
+            Return(1),
+        ],
+        ENDED,
+        &[-4],
+        b"",
+    ),
+    (
+        &[
+            Step(1),
+            Local(0),
+            Fetch(1),
+            Push(1),
+            LESS,
+            Zero(13),
+            Local(0),
+            Local(0),
+            Fetch(1),
+            Push(1),
+            SUM,
+            Store(1),
+            Jump(0),
+            Local(0),
+            Fetch(1),
+            Return(1),
+        ],
+        ENDED,
+        &[1],
+        b"",
+    ),
+    (
+        &[
+            Local(1),
+            Push(-1),
+            Store(1),
+            Local(0),
+            Local(1),
+            Fetch(1),
+            Convert(U8),
+            Push(1),
+            SUM,
+            Store(1),
+            Local(0),
+            Fetch(1),
+            Return(1),
+        ],
+        ENDED,
+        &[256],
+        b"",
+    ),
+    (
+        &[
+            Local(0),
+            Push(0),
+            Push(1),
+            UNSIGNED,
+            Store(1),
+            Local(0),
+            Fetch(1),
+            Return(1),
+        ],
+        ENDED,
+        &[4_294_967_295],
+        b"",
+    ),
+    (
+        &[Local(0), Push(2_147_483_648), Push(1), SUM, Store(1)],
+        None,
+        &[],
+        b"",
+    ),
+];
+
 #[test]
 fn code_stops_as_told(rt: HostRuntime) -> Result<(), Fail> {
     for (name, rows) in [
@@ -627,6 +833,7 @@ fn code_stops_as_told(rt: HostRuntime) -> Result<(), Fail> {
         ("places", PLACES.as_slice()),
         ("bytes", BYTES.as_slice()),
         ("stuck", STUCK.as_slice()),
+        ("sequences", SEQUENCES.as_slice()),
     ] {
         assert_eq!(rt; first_wrong(rt.alloc(), rows)?, None, "{name}");
     }
