@@ -67,11 +67,27 @@ module _ (a : Annotated) (own : Own) (bodies : List Body) (lines : List ℕ) (ca
 
   at_symbol : (x : Symbol) (line : ℕ) → IsSymbol a x → IsFree a x → HasTwo a x → symbol_line a x ≡ line → InConflict line
   at_symbol (function k) line l free two is =
-      inl (k, (subst (λ n. k < n) (sym counted) l, (not_own a own g.are_own.agree g.are_own.sure (function k) free,
-      (subst (λ n. BearsTwo carried n) (omega arith) (two_borne (function k) free two), function_stands k l ∙ is))))
+      inl (
+        k,
+        (
+          subst (λ n. k < n) (sym counted) l,
+          (
+            not_own a own g.are_own.agree g.are_own.sure (function k) free,
+            (subst (λ n. BearsTwo carried n) (omega arith) (two_borne (function k) free two), function_stands k l ∙ is),
+          ),
+        ),
+      )
   at_symbol (object k) line l free two is =
-      inr (k, (subst (λ n. k < n) (sym g.all_objects) l, (not_own a own g.are_own.agree g.are_own.sure (object k) free,
-      (two_borne (object k) free two, object_stands k ∙ is))))
+      inr (
+        k,
+        (
+          subst (λ n. k < n) (sym g.all_objects) l,
+          (
+            not_own a own g.are_own.agree g.are_own.sure (object k) free,
+            (two_borne (object k) free two, object_stands k ∙ is),
+          ),
+        ),
+      )
 
   from_place : (position line : ℕ) → two_levels a position line → InConflict line
   from_place position line h = at_symbol h.1.0 line h.1.1.0 h.1.1.1.0 h.1.1.1.1.0 h.1.1.1.1.1

@@ -47,9 +47,9 @@ unfolding each_from
 from_each gives f [] a h = absurd (in_none a h)
 from_each {A} gives f (us ∷ uss) a h =
     ⊎_elim (λ (l : Contains (flat_map (gives f) us) a). let b = from_flat (gives f) us a l in
-        record { by = 0; used = b.0; stands = b.1.0; gave = subst (λ (n : ℕ). Contains (gives n b.0) a) (omega arith) b.1.1 })
+    record { by = 0; used = b.0; stands = b.1.0; gave = subst (λ (n : ℕ). Contains (gives n b.0) a) (omega arith) b.1.1 })
     (λ (r : Contains (each_from gives (suc f) uss) a). let o = from_each gives (suc f) uss a r in
-        record { by = suc o.by; used = o.used; stands = o.stands; gave = subst (λ (n : ℕ). Contains (gives n o.used) a) (omega arith) o.gave })
+    record { by = suc o.by; used = o.used; stands = o.stands; gave = subst (λ (n : ℕ). Contains (gives n o.used) a) (omega arith) o.gave })
     (Contains-append_cases (flat_map (gives f) us) (each_from gives (suc f) uss) a h)
 
 pub to_each : {A : Type 0} (gives : ℕ → Use → List A) (f : ℕ) (uss : List (List Use)) (i : ℕ) (used : Use) (a : A)
