@@ -5,7 +5,7 @@ use cl_base::host::HostFiles;
 use cl_base::outside::Files;
 use cl_mean::checked::Checked;
 use guard_rules::policy::{PolicyStop, read_policy};
-use policy_source::source::checked;
+use policy_source::wide::checked;
 use std::time::Instant;
 use std::{env, io};
 

@@ -1,6 +1,6 @@
 -- The integers that a path chooses, by the definitions of places under a path.
-use Rattle.std.proofs.Common.{◌≡◌, ℕ, suc, ◌+◌, ◌<◌, arith, ℤ, List, [], ◌∷◌, ◌++◌, length, map, drop, get_or, refl, sym, ap, ◌∙◌, Bool, true, false, not, ◌&&◌, ◌||◌, if◌then◌else◌, append_assoc, length-append, slice_index_or, Some}
-use Rattle.std.specs.List.{list_all, list_any}
+use Rattle.std.proofs.Common.{◌≡◌, ℕ, suc, ◌+◌, ◌<◌, arith, ℤ, List, [], ◌∷◌, ◌++◌, length, map, drop, get_or, refl, sym, ap, subst, ◌∙◌, Bool, true, false, ◌&&◌, if◌then◌else◌, append_assoc, length-append, slice_index_or, Option, Some, None}
+use Rattle.std.specs.List.{list_all}
 use Rattle.std.proofs.lemmas.List.{drop_more}
 use Rattle.cl_tree.specs.declared.kinds.IntKind.{IntKind}
 use Rattle.cl_tree.specs.declared.kinds.IntKind.TheVariants.{I32}
@@ -13,83 +13,93 @@ use Rattle.rpc_codec.specs.declared.leaves.Leaf.{Leaf}
 use Rattle.rpc_codec.specs.Leaves.{chosen_from, leaves}
 use Rattle.rpc_codec.proofs.Under.{kinds_are, places_are}
 use Rattle.guard_rules.specs.declared.draft.Field.{Field}
-use Rattle.guard_rules.specs.Answer.{leaf_fits, FieldAnswer}
-use Rattle.guard_rules.specs.Policy.{any_there, field_fits, is_path}
+use Rattle.guard_rules.specs.declared.found.Place.{Place}
+use Rattle.guard_rules.specs.Answer.{FieldAnswer, PlacesAnswer}
+use Rattle.guard_rules.specs.Places.{chosen_places, place_at, places_of}
+use Rattle.guard_rules.specs.Policy.{any_there, field_fits}
 
--- ---- whether there is one
-
-any_is : (ls : List Leaf) (at : ℕ) → list_any (λ l. l.chosen) ls ≡ any_there (chosen_from at ls)
-any_is [] at = refl
-any_is (l ∷ ls) at = by l.chosen (any_is ls (suc at))
-  where
-    by : (c : Bool) → list_any (λ l. l.chosen) ls ≡ any_there (chosen_from (suc at) ls)
-        → (c || list_any (λ l. l.chosen) ls) ≡ any_there (if c then at ∷ chosen_from (suc at) ls else chosen_from (suc at) ls)
-    by true rest = refl
-    by false rest = rest
-
-pub path_is : (s : Shape) (path : List Word) (ls : List Leaf) → ls ≡ leaves s true path → list_any (λ l. l.chosen) ls ≡ any_there (under s path 0)
-path_is s path ls e = any_is ls 0 ∙ ap (λ (xs : List Leaf). any_there (chosen_from 0 xs)) e ∙ ap any_there (places_are s path 0)
-
--- ---- whether a number fits them
+-- ---- the integers that are chosen are those under the path
 
 index_behind : (pre : List IntKind) (k : IntKind) (ks : List IntKind) → slice_index_or (pre ++ k ∷ ks) (length pre) I32 ≡ k
 index_behind [] k ks = refl
 index_behind (p ∷ pre) k ks = index_behind pre k ks
 
-module _ (n : ℤ) (kinds : List IntKind) where
-  abbrev fits_at : ℕ → Bool
-  fits_at at = fits (slice_index_or kinds at I32) n
+abbrev pub place : ℕ → IntKind → Place
+place at kind = record { at = at; kind = kind }
 
-  fit_from : (pre : List IntKind) (ls : List Leaf) (at : ℕ) → at ≡ length pre → kinds ≡ pre ++ map (λ l. l.kind) ls → list_all (leaf_fits n) ls ≡ list_all fits_at (chosen_from at ls)
-  fit_from pre [] at here is = refl
-  fit_from pre (l ∷ ls) at here is =
+module _ (kinds : List IntKind) where
+  places_from : (pre : List IntKind) (ls : List Leaf) (at : ℕ) → at ≡ length pre → kinds ≡ pre ++ map (λ l. l.kind) ls
+      → chosen_places at ls ≡ map (place_at kinds) (chosen_from at ls)
+  places_from pre [] at here is = refl
+  places_from pre (l ∷ ls) at here is =
       let kind : slice_index_or kinds at I32 ≡ l.kind = rw (is, here) (index_behind pre l.kind (map (λ l. l.kind) ls)) in
       let next : suc at ≡ length (pre ++ l.kind ∷ []) = omega (arith, here, length-append pre (l.kind ∷ [])) in
-      by l.chosen (ap (λ (k : IntKind). fits k n) (sym kind)) (fit_from (pre ++ l.kind ∷ []) ls (suc at) next (is ∙ sym (append_assoc pre (l.kind ∷ []) (map (λ l. l.kind) ls))))
+      by l.chosen (ap (place at) (sym kind)) (places_from (pre ++ l.kind ∷ []) ls (suc at) next (is ∙ sym (append_assoc pre (l.kind ∷ []) (map (λ l. l.kind) ls))))
     where
-      by : (c : Bool) → fits l.kind n ≡ fits_at at → list_all (leaf_fits n) ls ≡ list_all fits_at (chosen_from (suc at) ls)
-          → ((not c || fits l.kind n) && list_all (leaf_fits n) ls) ≡ list_all fits_at (if c then at ∷ chosen_from (suc at) ls else chosen_from (suc at) ls)
-      by true here rest = ap (λ (b : Bool). b && list_all (leaf_fits n) ls) here ∙ ap (λ (b : Bool). fits_at at && b) rest
+      by : (c : Bool) → place at l.kind ≡ place_at kinds at → chosen_places (suc at) ls ≡ map (place_at kinds) (chosen_from (suc at) ls)
+          → (if c then place at l.kind ∷ chosen_places (suc at) ls else chosen_places (suc at) ls) ≡ map (place_at kinds) (if c then at ∷ chosen_from (suc at) ls else chosen_from (suc at) ls)
+      by true here rest = ap (λ (p : Place). p ∷ chosen_places (suc at) ls) here ∙ ap (λ (ps : List Place). place_at kinds at ∷ ps) rest
       by false here rest = rest
 
-pub fits_is : (n : ℤ) (s : Shape) (path : List Word) (ls : List Leaf) → ls ≡ leaves s true path → list_all (leaf_fits n) ls ≡ list_all (λ at. fits (slice_index_or (kinds_of s) at I32) n) (under s path 0)
-fits_is n s path ls e =
-    ap (list_all (leaf_fits n)) e ∙ fit_from n (kinds_of s) [] (leaves s true path) 0 refl (sym (kinds_are s true path))
-    ∙ ap (list_all (λ at. fits (slice_index_or (kinds_of s) at I32) n)) (places_are s path 0)
+pub places_are_those : (s : Shape) (path : List Word) (ls : List Leaf) → ls ≡ leaves s true path → chosen_places 0 ls ≡ places_of s path
+places_are_those s path ls e =
+    ap (chosen_places 0) e ∙ places_from (kinds_of s) [] (leaves s true path) 0 refl (sym (kinds_are s true path))
+    ∙ ap (map (place_at (kinds_of s))) (places_are s path 0)
 
--- ---- their patches
+-- ---- collecting them
 
-pub patches_are : (n : ℤ) (s : Shape) (path : List Word) (ls : List Leaf) → ls ≡ leaves s true path → map (patch_with n) (chosen_from 0 ls) ≡ map (patch_with n) (under s path 0)
-patches_are n s path ls e = ap (λ (xs : List Leaf). map (patch_with n) (chosen_from 0 xs)) e ∙ ap (map (patch_with n)) (places_are s path 0)
-
-chosen_more : (ls : List Leaf) (i : ℕ) (d : Leaf) → i < length ls → get_or ls i d ≡ d → chosen_from i (drop i ls) ≡ (if d.chosen then i ∷ chosen_from (i + 1) (drop (i + 1) ls) else chosen_from (i + 1) (drop (i + 1) ls))
+chosen_more : (ls : List Leaf) (i : ℕ) (d : Leaf) → i < length ls → get_or ls i d ≡ d
+    → chosen_places i (drop i ls) ≡ (if d.chosen then place i d.kind ∷ chosen_places (i + 1) (drop (i + 1) ls) else chosen_places (i + 1) (drop (i + 1) ls))
 chosen_more ls i d h is =
     let e : suc i ≡ i + 1 = omega arith in
-    ap (chosen_from i) (drop_more ls i d h ∙ ap (λ (l : Leaf). l ∷ drop (i + 1) ls) is)
-    ∙ ap (λ (k : ℕ). if d.chosen then i ∷ chosen_from k (drop (i + 1) ls) else chosen_from k (drop (i + 1) ls)) e
+    ap (chosen_places i) (drop_more ls i d h ∙ ap (λ (l : Leaf). l ∷ drop (i + 1) ls) is)
+    ∙ ap (λ (k : ℕ). if d.chosen then place i d.kind ∷ chosen_places k (drop (i + 1) ls) else chosen_places k (drop (i + 1) ls)) e
 
-pub patch_more : (n : ℤ) (ls : List Leaf) (i : ℕ) (d : Leaf) (old new whole : List Patch) → i < length ls → get_or ls i d ≡ d → d.chosen ≡ true → new ≡ old ++ patch_with n i ∷ []
-    → old ++ map (patch_with n) (chosen_from i (drop i ls)) ≡ whole → new ++ map (patch_with n) (chosen_from (i + 1) (drop (i + 1) ls)) ≡ whole
-patch_more n ls i d old new whole h is does added before =
-    let rest : List ℕ = chosen_from (i + 1) (drop (i + 1) ls) in
-    let step : chosen_from i (drop i ls) ≡ i ∷ rest = chosen_more ls i d h is ∙ ap (λ (c : Bool). if c then i ∷ rest else rest) does in
-    ap (λ (ps : List Patch). ps ++ map (patch_with n) rest) added ∙ append_assoc old (patch_with n i ∷ []) (map (patch_with n) rest)
-    ∙ ap (λ (ks : List ℕ). old ++ map (patch_with n) ks) (sym step) ∙ before
+pub place_more : (ls : List Leaf) (i : ℕ) (d : Leaf) (old new whole : List Place) → i < length ls → get_or ls i d ≡ d → d.chosen ≡ true
+    → new ≡ old ++ place i d.kind ∷ [] → old ++ chosen_places i (drop i ls) ≡ whole → new ++ chosen_places (i + 1) (drop (i + 1) ls) ≡ whole
+place_more ls i d old new whole h is does added before =
+    let rest : List Place = chosen_places (i + 1) (drop (i + 1) ls) in
+    let step : chosen_places i (drop i ls) ≡ place i d.kind ∷ rest = chosen_more ls i d h is ∙ ap (λ (c : Bool). if c then place i d.kind ∷ rest else rest) does in
+    ap (λ (ps : List Place). ps ++ rest) added ∙ append_assoc old (place i d.kind ∷ []) rest ∙ ap (λ (ps : List Place). old ++ ps) (sym step) ∙ before
 
-pub patch_less : (n : ℤ) (ls : List Leaf) (i : ℕ) (d : Leaf) (old new whole : List Patch) → i < length ls → get_or ls i d ≡ d → d.chosen ≡ false → new ≡ old
-    → old ++ map (patch_with n) (chosen_from i (drop i ls)) ≡ whole → new ++ map (patch_with n) (chosen_from (i + 1) (drop (i + 1) ls)) ≡ whole
-patch_less n ls i d old new whole h is fails same before =
-    let rest : List ℕ = chosen_from (i + 1) (drop (i + 1) ls) in
-    let step : chosen_from i (drop i ls) ≡ rest = chosen_more ls i d h is ∙ ap (λ (c : Bool). if c then i ∷ rest else rest) fails in
-    ap (λ (ps : List Patch). ps ++ map (patch_with n) rest) same ∙ ap (λ (ks : List ℕ). old ++ map (patch_with n) ks) (sym step) ∙ before
+pub place_less : (ls : List Leaf) (i : ℕ) (d : Leaf) (old new whole : List Place) → i < length ls → get_or ls i d ≡ d → d.chosen ≡ false → new ≡ old
+    → old ++ chosen_places i (drop i ls) ≡ whole → new ++ chosen_places (i + 1) (drop (i + 1) ls) ≡ whole
+place_less ls i d old new whole h is fails same before =
+    let rest : List Place = chosen_places (i + 1) (drop (i + 1) ls) in
+    let step : chosen_places i (drop i ls) ≡ rest = chosen_more ls i d h is ∙ ap (λ (c : Bool). if c then place i d.kind ∷ rest else rest) fails in
+    ap (λ (ps : List Place). ps ++ rest) same ∙ ap (λ (ps : List Place). old ++ ps) (sym step) ∙ before
 
--- ---- fields
+-- ---- fields by the integers under their paths
 
-pub field_is : (s : Shape) (f : Field) (ls : List Leaf) (old new : List Patch) (any fit : Bool) → ls ≡ leaves s true f.path → any ≡ list_any (λ l. l.chosen) ls → any ≡ true
-    → new ≡ old ++ map (patch_with f.with) (chosen_from 0 ls) → fit ≡ list_all (leaf_fits f.with) ls → FieldAnswer s f old new (Some fit)
+module _ (kinds : List IntKind) where
+  is_none : (xs : List ℕ) → length (map (place_at kinds) xs) ≡ 0 → any_there xs ≡ false
+  is_none [] e = refl
+  is_none (x ∷ xs) e = absurd (omega (arith, e))
+
+  is_some : (xs : List ℕ) → 0 < length (map (place_at kinds) xs) → any_there xs ≡ true
+  is_some [] e = absurd (omega (arith, e))
+  is_some (x ∷ xs) e = refl
+
+  patches_same : (n : ℤ) (xs : List ℕ) → map (λ p. patch_with n p.at) (map (place_at kinds) xs) ≡ map (patch_with n) xs
+  patches_same n [] = refl
+  patches_same n (x ∷ xs) = ap (λ (ps : List Patch). patch_with n x ∷ ps) (patches_same n xs)
+
+  fits_same : (n : ℤ) (xs : List ℕ) → list_all (λ p. fits p.kind n) (map (place_at kinds) xs) ≡ list_all (λ at. fits (slice_index_or kinds at I32) n) xs
+  fits_same n [] = refl
+  fits_same n (x ∷ xs) = ap (λ (b : Bool). fits (slice_index_or kinds x I32) n && b) (fits_same n xs)
+
+-- what the integers under a field's path answer is the answer of the field
+pub field_by : (s : Shape) (f : Field) (ps : List Place) (old new : List Patch) (answer : Option Bool) → ps ≡ places_of s f.path
+    → PlacesAnswer ps f.with old new answer → FieldAnswer s f old new answer
 unfolding field_fits
-field_is s f ls old new any fit is is_any there added fits =
-    (sym (path_is s f.path ls is) ∙ sym is_any ∙ there, added ∙ ap (λ (ps : List Patch). old ++ ps) (patches_are f.with s f.path ls is), fits ∙ fits_is f.with s f.path ls is)
+field_by s f ps old new None is got = is_none (kinds_of s) (under s f.path 0) (sym (ap length is) ∙ got)
+field_by s f ps old new (Some fit) is got = (
+  is_some (kinds_of s) (under s f.path 0) (subst (λ (qs : List Place). 0 < length qs) is got.0),
+  got.1 ∙ ap (λ (qs : List Place). old ++ map (λ p. patch_with f.with p.at) qs) is ∙ ap (λ (qs : List Patch). old ++ qs) (patches_same (kinds_of s) f.with (under s f.path 0)),
+  got.2 ∙ ap (list_all (λ p. fits p.kind f.with)) is ∙ fits_same (kinds_of s) f.with (under s f.path 0),
+)
 
-pub field_isnt : (s : Shape) (f : Field) (ls : List Leaf) (any : Bool) → ls ≡ leaves s true f.path → any ≡ list_any (λ l. l.chosen) ls → any ≡ false → is_path s f ≡ false
-field_isnt s f ls any is is_any there = sym (path_is s f.path ls is) ∙ sym is_any ∙ there
+-- the same where the number was converted on the way
+pub field_with : (s : Shape) (f : Field) (n : ℤ) (ps : List Place) (old new : List Patch) (answer : Option Bool) → n ≡ f.with → ps ≡ places_of s f.path
+    → PlacesAnswer ps n old new answer → FieldAnswer s f old new answer
+field_with s f n ps old new answer same is got = field_by s f ps old new answer is (subst (λ (m : ℤ). PlacesAnswer ps m old new answer) same got)

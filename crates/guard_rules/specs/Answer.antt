@@ -1,5 +1,5 @@
 -- What the steps of reading a policy answer.
-use Rattle.std.specs.Prelude.{◌≡◌, ℕ, ◌+◌, ℤ, Bool, true, false, not, ◌||◌, List, [], ◌∷◌, ◌++◌, map, Option, Some, None, Result, Ok, Err}
+use Rattle.std.specs.Prelude.{◌≡◌, ℕ, ◌+◌, ◌<◌, ℤ, Bool, true, false, List, [], ◌∷◌, ◌++◌, length, map, Option, Some, None, Result, Ok, Err}
 use Rattle.std.specs.Global.{Vec}
 use Rattle.std.specs.List.{flat_map, list_all}
 use Rattle.std.specs.Option.{is_some}
@@ -10,14 +10,15 @@ use Rattle.cl_tree.specs.Arithmetic.{fits}
 use Rattle.cl_mean.specs.declared.checked.Checked.{Checked}
 use Rattle.cl_mean.specs.declared.law.Law.{Law}
 use Rattle.cl_mean.specs.declared.law.Patch.{Patch}
+use Rattle.cl_mean.specs.Judging.{patch_with}
 use Rattle.cl_mean.specs.Shape.{Shape}
 use Rattle.cl_typing.specs.Rules as checks
 use Rattle.cl_typing.specs.Rules.{Lines, AllHold, FirstFails, Begins, rule}
 use Rattle.cl_labelling.specs.Json.{each}
-use Rattle.rpc_codec.specs.declared.leaves.Leaf.{Leaf}
 use Rattle.guard_rules.specs.declared.draft.ActDraft.{ActDraft}
 use Rattle.guard_rules.specs.declared.draft.Field.{Field}
 use Rattle.guard_rules.specs.declared.draft.RuleDraft.{RuleDraft}
+use Rattle.guard_rules.specs.declared.found.Place.{Place}
 use Rattle.guard_rules.specs.declared.policy.PolicyStop.{PolicyStop}
 use Rattle.guard_rules.specs.declared.policy.PolicyStop.TheVariants as stop
 use Rattle.guard_rules.specs.declared.redact.Redacted.{Redacted}
@@ -28,9 +29,11 @@ use Rattle.guard_rules.specs.Text.{drafts_of, rule_in, rules_in, value_of}
 
 -- ---- fields
 
--- an integer that isn't chosen takes any number
-abbrev pub leaf_fits : ℤ → Leaf → Bool
-leaf_fits with l = not l.chosen || fits l.kind with
+-- a field with these integers under its path: its patches are added
+abbrev pub PlacesAnswer : List Place → ℤ → List Patch → List Patch → Option Bool → Type 0
+PlacesAnswer ps n old new None = length ps ≡ 0
+PlacesAnswer ps n old new (Some fit) =
+    (0 < length ps) × (new ≡ old ++ map (λ p. patch_with n p.at) ps) × (fit ≡ list_all (λ p. fits p.kind n) ps)
 
 -- a field whose path names integers: its patches are added
 abbrev pub FieldAnswer : Shape → Field → List Patch → List Patch → Option Bool → Type 0

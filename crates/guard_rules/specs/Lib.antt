@@ -1,4 +1,5 @@
 pub mod Answer
 pub mod Guards
+pub mod Places
 pub mod Policy
 pub mod Text

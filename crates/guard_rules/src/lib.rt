@@ -2,6 +2,7 @@
 #![tactic(auto)]
 
 mod draft;
+mod found;
 pub mod guards;
 mod json;
 pub mod laws;

@@ -10,7 +10,8 @@ ghost use Rattle.guard_rules.specs.Policy.{IsPolicy, policy_rules, PolicyFails};
 ghost use Rattle.cl_labelling.specs.Json.{json_of};
 ghost use Rattle.guard_rules.specs.Text.{value_of};
 
-use crate::draft::RuleDraft;
+use crate::draft::{ActDraft, RuleDraft};
+use crate::found::Paths;
 use crate::resolve::{Resolved, resolve_rule};
 use crate::text::{rule_in, rules_under};
 use cl_base::name::NoMemory;
@@ -126,6 +127,29 @@ fn drafts_of(alloc: Global, bytes: &[u8]) -> Result<Vec<RuleDraft>, PolicyStop>
     rules_in(alloc, &value)
 }
 
+/// The fields of a rule.
+fn fields_of(draft: &RuleDraft) -> usize {
+    match &draft.act {
+        ActDraft::Redact(fields) => fields.len(),
+        _ => 0,
+    }
+}
+
+/// Room for the paths of all fields of these rules.
+fn paths_for<'a>(
+    alloc: Global,
+    checked: &'a Checked,
+    drafts: &[RuleDraft],
+) -> Result<Paths<'a>, NoMemory>
+    ensures { IfOk result (λ p. p ≡ checked.now) }
+{
+    let mut count: usize = 0;
+    for draft in drafts {
+        count = count.saturating_add(fields_of(draft));
+    }
+    Paths::new(alloc, checked, count)
+}
+
 /// The rules with the numbers of what they name.
 fn resolve_all(
     alloc: Global,
@@ -134,9 +158,10 @@ fn resolve_all(
 ) -> Result<Vec<Resolved>, PolicyStop>
     ensures { ResolvedAnswer checked.now drafts.now result }
 {
+    let mut paths = paths_for(alloc, checked, drafts)?;
     let mut rules = Vec::new(alloc);
     for draft in drafts {
-        match resolve_rule(alloc, checked, draft)? {
+        match resolve_rule(alloc, &mut paths, draft)? {
             Some(rule) => rules.push(rule)?,
             None => return Err(stop_at(3, rules.len())),
         }
@@ -188,7 +213,8 @@ fn read(alloc: Global, bytes: &[u8], checked: &Checked) -> Result<Law, PolicySto
     law_of(alloc, checked, &drafts)
 }
 
-/// Reads a policy for a checked source: the law that has a rule for each rule of the policy, in order.
+/// Reads a policy for a checked source: the law that has a rule for each rule of the policy, in order. Since the law has a patch
+/// of 32 bytes for each integer under each path, time and memory grow with the number of these and not only with the text.
 ///
 /// # Errors
 ///

@@ -2,3 +2,5 @@
 #![tactic(auto)]
 
 pub mod source;
+pub mod texts;
+pub mod wide;

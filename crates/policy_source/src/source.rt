@@ -22,15 +22,15 @@ const KINDS: [(&str, IntKind); 10] = [
     ("j", IntKind::ULLong),
 ];
 
-fn integer(kind: IntKind) -> CType {
+pub(crate) fn integer(kind: IntKind) -> CType {
     CType::Integer(kind)
 }
 
-fn named(alloc: Global, name: &str) -> Result<CType, NoMemory> {
+pub(crate) fn named(alloc: Global, name: &str) -> Result<CType, NoMemory> {
     Ok(CType::Struct(Name::of(alloc, name)?))
 }
 
-fn array(alloc: Global, element: CType, size: u64) -> Result<CType, NoMemory> {
+pub(crate) fn array(alloc: Global, element: CType, size: u64) -> Result<CType, NoMemory> {
     Ok(CType::Array(Boxed::new(alloc, element)?, size))
 }
 
@@ -44,7 +44,7 @@ fn declarator(alloc: Global, name: &str, ctype: CType) -> Result<Declarator, NoM
     })
 }
 
-fn add(
+pub(crate) fn add(
     alloc: Global,
     all: &mut Items<Declarator>,
     name: &str,
@@ -55,7 +55,11 @@ fn add(
 }
 
 /// A struct of these members.
-fn structure(alloc: Global, name: &str, names: Items<Declarator>) -> Result<Item, NoMemory> {
+pub(crate) fn structure(
+    alloc: Global,
+    name: &str,
+    names: Items<Declarator>,
+) -> Result<Item, NoMemory> {
     let mut members = Items::new(alloc);
     members.push(Declaration {
         is_static: false,
@@ -69,7 +73,7 @@ fn structure(alloc: Global, name: &str, names: Items<Declarator>) -> Result<Item
 }
 
 /// A function of these parameters that does nothing.
-fn function(
+pub(crate) fn function(
     alloc: Global,
     name: &str,
     given: CType,
@@ -88,7 +92,7 @@ fn function(
 }
 
 /// `struct point { char x; int y; };`
-fn point(alloc: Global) -> Result<Item, NoMemory> {
+pub(crate) fn point(alloc: Global) -> Result<Item, NoMemory> {
     let mut members = Items::new(alloc);
     add(alloc, &mut members, "x", integer(IntKind::I8))?;
     add(alloc, &mut members, "y", integer(IntKind::I32))?;
@@ -96,7 +100,7 @@ fn point(alloc: Global) -> Result<Item, NoMemory> {
 }
 
 /// `struct shape { struct point ends[2]; short h; };`
-fn shape(alloc: Global) -> Result<Item, NoMemory> {
+pub(crate) fn shape(alloc: Global) -> Result<Item, NoMemory> {
     let mut members = Items::new(alloc);
     let ends = array(alloc, named(alloc, "point")?, 2)?;
     add(alloc, &mut members, "ends", ends)?;
@@ -105,7 +109,7 @@ fn shape(alloc: Global) -> Result<Item, NoMemory> {
 }
 
 /// `struct shape draw(struct shape s, int v[3]) { }`
-fn draw(alloc: Global) -> Result<Item, NoMemory> {
+pub(crate) fn draw(alloc: Global) -> Result<Item, NoMemory> {
     let mut params = Items::new(alloc);
     add(alloc, &mut params, "s", named(alloc, "shape")?)?;
     let v = array(alloc, integer(IntKind::I32), 3)?;
@@ -131,23 +135,16 @@ fn fact(alloc: Global, name: &str, item: u32) -> Result<FnFact, NoMemory> {
     })
 }
 
-fn typed(alloc: Global) -> Result<Typed, NoMemory> {
-    let mut items = Items::new(alloc);
-    items.push(point(alloc)?)?;
-    items.push(shape(alloc)?)?;
-    items.push(draw(alloc)?)?;
-    items.push(kinds(alloc)?)?;
+/// The functions of a source, each by its name and its item.
+fn facts(alloc: Global, named: &[(&str, u32)]) -> Result<Items<FnFact>, NoMemory> {
     let mut functions = Items::new(alloc);
-    functions.push(fact(alloc, "draw", 2)?)?;
-    functions.push(fact(alloc, "kinds", 3)?)?;
-    Ok(Typed {
-        program: Program { items },
-        functions,
-        objects: Items::new(alloc),
-    })
+    for (name, item) in named {
+        functions.push(fact(alloc, name, *item)?)?;
+    }
+    Ok(functions)
 }
 
-/// The rows: `purple` calls both functions of `orange`.
+/// The rows: `purple` calls this function of `orange`.
 fn row(alloc: Global, function: u32, name: &str) -> Result<GedlRow, NoMemory> {
     Ok(GedlRow {
         from: 0,
@@ -164,10 +161,13 @@ fn row(alloc: Global, function: u32, name: &str) -> Result<GedlRow, NoMemory> {
     })
 }
 
-fn gedl(alloc: Global) -> Result<GedlRows, NoMemory> {
+fn gedl(alloc: Global, named: &[(&str, u32)]) -> Result<GedlRows, NoMemory> {
     let mut rows = Items::new(alloc);
-    rows.push(row(alloc, 0, "draw")?)?;
-    rows.push(row(alloc, 1, "kinds")?)?;
+    let mut function = 0;
+    for (name, _) in named {
+        rows.push(row(alloc, function, name)?)?;
+        function = function.saturating_add(1);
+    }
     Ok(GedlRows {
         levels: Items::new(alloc),
         main: 0,
@@ -175,13 +175,14 @@ fn gedl(alloc: Global) -> Result<GedlRows, NoMemory> {
     })
 }
 
-fn labels(alloc: Global) -> Result<LabelTable, NoMemory> {
+fn labels(alloc: Global, named: &[(&str, u32)]) -> Result<LabelTable, NoMemory> {
     let mut levels = Items::new(alloc);
     levels.push(Name::of(alloc, "purple")?)?;
     levels.push(Name::of(alloc, "orange")?)?;
     let mut on_functions = Items::new(alloc);
-    on_functions.push(None)?;
-    on_functions.push(None)?;
+    for _ in named {
+        on_functions.push(None)?;
+    }
     Ok(LabelTable {
         levels,
         labels: Items::new(alloc),
@@ -190,10 +191,11 @@ fn labels(alloc: Global) -> Result<LabelTable, NoMemory> {
     })
 }
 
-fn levels(alloc: Global) -> Result<Levels, NoMemory> {
+fn levels(alloc: Global, named: &[(&str, u32)]) -> Result<Levels, NoMemory> {
     let mut of_functions = Items::new(alloc);
-    of_functions.push(1)?;
-    of_functions.push(1)?;
+    for _ in named {
+        of_functions.push(1)?;
+    }
     Ok(Levels {
         of_functions,
         of_objects: Items::new(alloc),
@@ -201,17 +203,36 @@ fn levels(alloc: Global) -> Result<Levels, NoMemory> {
     })
 }
 
-/// Two levels, `purple` and `orange`, and two functions that the first calls at the second.
-pub fn checked(alloc: Global) -> Result<Checked, NoMemory> {
+/// A source of these items, and of the functions of these names that they define: `purple` calls each of them at `orange`.
+pub(crate) fn checked_of(
+    alloc: Global,
+    items: Items<Item>,
+    named: &[(&str, u32)],
+) -> Result<Checked, NoMemory> {
+    let functions = facts(alloc, named)?;
     Ok(Checked {
-        typed: typed(alloc)?,
-        labels: labels(alloc)?,
-        levels: levels(alloc)?,
+        typed: Typed {
+            program: Program { items },
+            functions,
+            objects: Items::new(alloc),
+        },
+        labels: labels(alloc, named)?,
+        levels: levels(alloc, named)?,
         flow: Flow {
             objects: Items::new(alloc),
             locals: Items::new(alloc),
             results: Items::new(alloc),
         },
-        gedl: gedl(alloc)?,
+        gedl: gedl(alloc, named)?,
     })
+}
+
+/// Two levels, `purple` and `orange`, and two functions that the first calls at the second.
+pub fn checked(alloc: Global) -> Result<Checked, NoMemory> {
+    let mut items = Items::new(alloc);
+    items.push(point(alloc)?)?;
+    items.push(shape(alloc)?)?;
+    items.push(draw(alloc)?)?;
+    items.push(kinds(alloc)?)?;
+    checked_of(alloc, items, &[("draw", 2), ("kinds", 3)])
 }

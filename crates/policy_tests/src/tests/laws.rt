@@ -22,21 +22,38 @@ const NONE_LEFT: &str =
 const SENT: [i128; 8] = [10, 20, 30, 40, 50, 60, 70, 80];
 
 /// A policy, whether it is asked about a reply, what it rules, and what it leaves.
-const JUDGED: [(&str, bool, Ruling, [i128; 8]); 4] = [
-    (
-        INNER_LAST,
-        false,
-        Ruling::Pass,
-        [-6, 5, -6, 5, 50, 60, 70, 80],
-    ),
-    (
-        OUTER_LAST,
-        false,
-        Ruling::Pass,
-        [5, 5, 5, 5, 50, 60, 70, 80],
-    ),
-    (INNER_LAST, true, Ruling::Pass, SENT),
-    (NONE_LEFT, false, Ruling::Block, SENT),
+struct Judged {
+    text: &'static str,
+    reply: bool,
+    wanted: Ruling,
+    left: [i128; 8],
+}
+
+const JUDGED: [Judged; 4] = [
+    Judged {
+        text: INNER_LAST,
+        reply: false,
+        wanted: Ruling::Pass,
+        left: [-6, 5, -6, 5, 50, 60, 70, 80],
+    },
+    Judged {
+        text: OUTER_LAST,
+        reply: false,
+        wanted: Ruling::Pass,
+        left: [5, 5, 5, 5, 50, 60, 70, 80],
+    },
+    Judged {
+        text: INNER_LAST,
+        reply: true,
+        wanted: Ruling::Pass,
+        left: SENT,
+    },
+    Judged {
+        text: NONE_LEFT,
+        reply: false,
+        wanted: Ruling::Block,
+        left: SENT,
+    },
 ];
 
 /// What the law of a policy rules of `draw`; None where the policy isn't read.
@@ -69,12 +86,16 @@ fn ruling(
     Ok(ruling_of(alloc, &checked, text, reply, values))
 }
 
+fn judges(alloc: Global, case: &Judged) -> Result<bool, NoMemory> {
+    let mut values = SENT;
+    let ruled = ruling(alloc, case.text, case.reply, &mut values)?;
+    Ok(ruled == Some(case.wanted) && values == case.left)
+}
+
 #[test]
 fn laws_that_were_read_judge(rt: HostRuntime) -> Result<(), Fail> {
-    for (text, reply, wanted, left) in JUDGED {
-        let mut values = SENT;
-        assert_eq!(rt; ruling(rt.alloc(), text, reply, &mut values)?, Some(wanted));
-        assert_eq!(rt; values, left);
+    for case in &JUDGED {
+        assert!(rt; judges(rt.alloc(), case)?);
     }
     Ok(())
 }

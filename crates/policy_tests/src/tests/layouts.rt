@@ -8,11 +8,38 @@ use std::test::Fail;
 /// A row, whether it is its reply, and the bytes and the integers of that payload. `draw` has two points of 1 and 4 bytes, `h`
 /// of 2 and three elements of 4; on its reply the result stands in the place of `s`. `kinds` has twice 1, 2 and 4 bytes and four
 /// times 8; its reply has nothing.
-const PAYLOADS: [(u32, bool, usize, usize); 4] = [
-    (0, false, 24, 8),
-    (0, true, 24, 8),
-    (1, false, 46, 10),
-    (1, true, 0, 0),
+struct LaidOut {
+    row: u32,
+    reply: bool,
+    length: usize,
+    count: usize,
+}
+
+const PAYLOADS: [LaidOut; 4] = [
+    LaidOut {
+        row: 0,
+        reply: false,
+        length: 24,
+        count: 8,
+    },
+    LaidOut {
+        row: 0,
+        reply: true,
+        length: 24,
+        count: 8,
+    },
+    LaidOut {
+        row: 1,
+        reply: false,
+        length: 46,
+        count: 10,
+    },
+    LaidOut {
+        row: 1,
+        reply: true,
+        length: 0,
+        count: 0,
+    },
 ];
 
 /// The bytes and the integers of a payload, if there is such a row.
@@ -34,10 +61,14 @@ fn size(alloc: Global, row: u32, reply: bool) -> Result<Option<(usize, usize)>, 
     size_of(alloc, &checked, row, reply)
 }
 
+fn is_laid_out(alloc: Global, case: &LaidOut) -> Result<bool, NoMemory> {
+    Ok(size(alloc, case.row, case.reply)? == Some((case.length, case.count)))
+}
+
 #[test]
 fn payloads_are_laid_out(rt: HostRuntime) -> Result<(), Fail> {
-    for (row, reply, length, count) in PAYLOADS {
-        assert_eq!(rt; size(rt.alloc(), row, reply)?, Some((length, count)));
+    for case in &PAYLOADS {
+        assert!(rt; is_laid_out(rt.alloc(), case)?);
     }
     Ok(())
 }

@@ -3,158 +3,289 @@ use cl_mean::checked::Checked;
 use cl_mean::law::{Asked, GuardAct, Law, Patch, Rule, Ruling};
 use guard_rules::policy::{PolicyStop, read_policy};
 use policy_source::source::checked;
-use std::alloc::{AllocError, Global};
+use policy_source::texts::{with_number, with_path};
+use std::alloc::Global;
 use std::test::Fail;
 
-/// Policies that are refused, with the rule and the place.
-const REFUSED: [(&str, u8, u32); 22] = [
-    ("{", 1, 0),
-    ("", 1, 0),
-    ("[]", 2, 0),
-    (r#"{"format":2,"rules":[]}"#, 2, 0),
-    (r#"{"format":1.0,"rules":[]}"#, 2, 0),
-    (r#"{"format":1,"rules":{}}"#, 2, 0),
-    (r#"{"format":1}"#, 2, 0),
-    (r#"{"format":1,"rules":[7]}"#, 2, 1),
-    (
-        r#"{"format":1,"rules":[{"from":"purple","to":"orange","function":"*","on":"request","do":"allow"},{"from":"purple","to":"orange","function":"*","on":"both","do":"allow"}]}"#,
-        2,
-        2,
-    ),
-    (
-        r#"{"format":1,"rules":[{"from":"purple","to":"orange","function":"*","on":"request","do":"quota","left":-1}]}"#,
-        2,
-        1,
-    ),
-    (
-        r#"{"format":1,"rules":[{"from":"purple","to":"orange","function":"*","on":"request","do":"quota","left":1.5}]}"#,
-        2,
-        1,
-    ),
-    (
-        r#"{"format":1,"rules":[{"from":"purple","to":"orange","function":"*","on":"request","do":"redact","fields":[]}]}"#,
-        2,
-        1,
-    ),
-    (
-        r#"{"format":1,"rules":[{"from":"red","to":"orange","function":"*","on":"request","do":"allow"}]}"#,
-        3,
-        1,
-    ),
-    (
-        r#"{"format":1,"rules":[{"from":"purple","to":"red","function":"*","on":"request","do":"allow"}]}"#,
-        3,
-        1,
-    ),
-    (
-        r#"{"format":1,"rules":[{"from":"orange","to":"purple","function":"draw","on":"request","do":"allow"}]}"#,
-        3,
-        1,
-    ),
-    (
-        r#"{"format":1,"rules":[{"from":"purple","to":"orange","function":"nope","on":"reply","do":"block"}]}"#,
-        3,
-        1,
-    ),
-    (
-        r#"{"format":1,"rules":[{"from":"purple","to":"orange","function":"draw","on":"request","do":"redact","fields":[{"field":"return","with":0}]}]}"#,
-        3,
-        1,
-    ),
-    (
-        r#"{"format":1,"rules":[{"from":"purple","to":"orange","function":"draw","on":"reply","do":"redact","fields":[{"field":"s","with":0}]}]}"#,
-        3,
-        1,
-    ),
-    (
-        r#"{"format":1,"rules":[{"from":"purple","to":"orange","function":"draw","on":"request","do":"redact","fields":[{"field":"s.ends.z","with":0}]}]}"#,
-        3,
-        1,
-    ),
-    (
-        r#"{"format":1,"rules":[{"from":"purple","to":"orange","function":"*","on":"request","do":"quota","left":1000000001}]}"#,
-        4,
-        1,
-    ),
-    (
-        r#"{"format":1,"rules":[{"from":"purple","to":"orange","function":"*","on":"request","do":"quota","left":1000000001},{"from":"purple","to":"orange","function":"nope","on":"request","do":"allow"}]}"#,
-        3,
-        2,
-    ),
-    (
-        r#"{"format":1,"rules":[{"from":"red","to":"orange","function":"*","on":"request","do":"allow"},{"from":"purple","to":"orange","function":"*","on":"request"}]}"#,
-        2,
-        2,
-    ),
+/// A policy that is refused, with the rule and the place.
+struct Refused {
+    text: &'static str,
+    rule: u8,
+    at: u32,
+}
+
+const REFUSED: [Refused; 22] = [
+    Refused {
+        text: "{",
+        rule: 1,
+        at: 0,
+    },
+    Refused {
+        text: "",
+        rule: 1,
+        at: 0,
+    },
+    Refused {
+        text: "[]",
+        rule: 2,
+        at: 0,
+    },
+    Refused {
+        text: r#"{"format":2,"rules":[]}"#,
+        rule: 2,
+        at: 0,
+    },
+    Refused {
+        text: r#"{"format":1.0,"rules":[]}"#,
+        rule: 2,
+        at: 0,
+    },
+    Refused {
+        text: r#"{"format":1,"rules":{}}"#,
+        rule: 2,
+        at: 0,
+    },
+    Refused {
+        text: r#"{"format":1}"#,
+        rule: 2,
+        at: 0,
+    },
+    Refused {
+        text: r#"{"format":1,"rules":[7]}"#,
+        rule: 2,
+        at: 1,
+    },
+    Refused {
+        text: r#"{"format":1,"rules":[{"from":"purple","to":"orange","function":"*","on":"request","do":"allow"},{"from":"purple","to":"orange","function":"*","on":"both","do":"allow"}]}"#,
+        rule: 2,
+        at: 2,
+    },
+    Refused {
+        text: r#"{"format":1,"rules":[{"from":"purple","to":"orange","function":"*","on":"request","do":"quota","left":-1}]}"#,
+        rule: 2,
+        at: 1,
+    },
+    Refused {
+        text: r#"{"format":1,"rules":[{"from":"purple","to":"orange","function":"*","on":"request","do":"quota","left":1.5}]}"#,
+        rule: 2,
+        at: 1,
+    },
+    Refused {
+        text: r#"{"format":1,"rules":[{"from":"purple","to":"orange","function":"*","on":"request","do":"redact","fields":[]}]}"#,
+        rule: 2,
+        at: 1,
+    },
+    Refused {
+        text: r#"{"format":1,"rules":[{"from":"red","to":"orange","function":"*","on":"request","do":"allow"}]}"#,
+        rule: 3,
+        at: 1,
+    },
+    Refused {
+        text: r#"{"format":1,"rules":[{"from":"purple","to":"red","function":"*","on":"request","do":"allow"}]}"#,
+        rule: 3,
+        at: 1,
+    },
+    Refused {
+        text: r#"{"format":1,"rules":[{"from":"orange","to":"purple","function":"draw","on":"request","do":"allow"}]}"#,
+        rule: 3,
+        at: 1,
+    },
+    Refused {
+        text: r#"{"format":1,"rules":[{"from":"purple","to":"orange","function":"nope","on":"reply","do":"block"}]}"#,
+        rule: 3,
+        at: 1,
+    },
+    Refused {
+        text: r#"{"format":1,"rules":[{"from":"purple","to":"orange","function":"draw","on":"request","do":"redact","fields":[{"field":"return","with":0}]}]}"#,
+        rule: 3,
+        at: 1,
+    },
+    Refused {
+        text: r#"{"format":1,"rules":[{"from":"purple","to":"orange","function":"draw","on":"reply","do":"redact","fields":[{"field":"s","with":0}]}]}"#,
+        rule: 3,
+        at: 1,
+    },
+    Refused {
+        text: r#"{"format":1,"rules":[{"from":"purple","to":"orange","function":"draw","on":"request","do":"redact","fields":[{"field":"s.ends.z","with":0}]}]}"#,
+        rule: 3,
+        at: 1,
+    },
+    Refused {
+        text: r#"{"format":1,"rules":[{"from":"purple","to":"orange","function":"*","on":"request","do":"quota","left":1000000001}]}"#,
+        rule: 4,
+        at: 1,
+    },
+    Refused {
+        text: r#"{"format":1,"rules":[{"from":"purple","to":"orange","function":"*","on":"request","do":"quota","left":1000000001},{"from":"purple","to":"orange","function":"nope","on":"request","do":"allow"}]}"#,
+        rule: 3,
+        at: 2,
+    },
+    Refused {
+        text: r#"{"format":1,"rules":[{"from":"red","to":"orange","function":"*","on":"request","do":"allow"},{"from":"purple","to":"orange","function":"*","on":"request"}]}"#,
+        rule: 2,
+        at: 2,
+    },
 ];
 
-/// Each parameter of `kinds` with its least number and its greatest, and with those past them. Numbers of more than 64 bits
-/// are no whole numbers, so that a rule with one has a wrong shape.
-const ENDS: [(&str, &str, &str, &str, &str, u8, u8); 10] = [
-    ("a", "-128", "127", "-129", "128", 4, 4),
-    ("b", "0", "255", "-1", "256", 4, 4),
-    ("c", "-32768", "32767", "-32769", "32768", 4, 4),
-    ("d", "0", "65535", "-1", "65536", 4, 4),
-    (
-        "e",
-        "-2147483648",
-        "2147483647",
-        "-2147483649",
-        "2147483648",
-        4,
-        4,
-    ),
-    ("f", "0", "4294967295", "-1", "4294967296", 4, 4),
-    (
-        "g",
-        "-9223372036854775808",
-        "9223372036854775807",
-        "-9223372036854775809",
-        "9223372036854775808",
-        2,
-        4,
-    ),
-    (
-        "h",
-        "0",
-        "18446744073709551615",
-        "-1",
-        "18446744073709551616",
-        4,
-        2,
-    ),
-    (
-        "i",
-        "-9223372036854775808",
-        "9223372036854775807",
-        "-9223372036854775809",
-        "9223372036854775808",
-        2,
-        4,
-    ),
-    (
-        "j",
-        "0",
-        "18446744073709551615",
-        "-1",
-        "18446744073709551616",
-        4,
-        2,
-    ),
+/// A parameter of `kinds` with its least number and its greatest, and with those past them, and the rules for policies that
+/// these break. Numbers of more than 64 bits are no whole numbers, so that a rule with one has a wrong shape.
+struct Ends {
+    field: &'static str,
+    least: &'static str,
+    greatest: &'static str,
+    below: &'static str,
+    above: &'static str,
+    first: u8,
+    last: u8,
+}
+
+const ENDS: [Ends; 10] = [
+    Ends {
+        field: "a",
+        least: "-128",
+        greatest: "127",
+        below: "-129",
+        above: "128",
+        first: 4,
+        last: 4,
+    },
+    Ends {
+        field: "b",
+        least: "0",
+        greatest: "255",
+        below: "-1",
+        above: "256",
+        first: 4,
+        last: 4,
+    },
+    Ends {
+        field: "c",
+        least: "-32768",
+        greatest: "32767",
+        below: "-32769",
+        above: "32768",
+        first: 4,
+        last: 4,
+    },
+    Ends {
+        field: "d",
+        least: "0",
+        greatest: "65535",
+        below: "-1",
+        above: "65536",
+        first: 4,
+        last: 4,
+    },
+    Ends {
+        field: "e",
+        least: "-2147483648",
+        greatest: "2147483647",
+        below: "-2147483649",
+        above: "2147483648",
+        first: 4,
+        last: 4,
+    },
+    Ends {
+        field: "f",
+        least: "0",
+        greatest: "4294967295",
+        below: "-1",
+        above: "4294967296",
+        first: 4,
+        last: 4,
+    },
+    Ends {
+        field: "g",
+        least: "-9223372036854775808",
+        greatest: "9223372036854775807",
+        below: "-9223372036854775809",
+        above: "9223372036854775808",
+        first: 2,
+        last: 4,
+    },
+    Ends {
+        field: "h",
+        least: "0",
+        greatest: "18446744073709551615",
+        below: "-1",
+        above: "18446744073709551616",
+        first: 4,
+        last: 2,
+    },
+    Ends {
+        field: "i",
+        least: "-9223372036854775808",
+        greatest: "9223372036854775807",
+        below: "-9223372036854775809",
+        above: "9223372036854775808",
+        first: 2,
+        last: 4,
+    },
+    Ends {
+        field: "j",
+        least: "0",
+        greatest: "18446744073709551615",
+        below: "-1",
+        above: "18446744073709551616",
+        first: 4,
+        last: 2,
+    },
 ];
 
-/// Paths of `draw`, whether on its reply, and the places under them. A request has the parts of `s` (`x` and `y` of two
+/// A path of `draw`, whether on its reply, and the places under it. A request has the parts of `s` (`x` and `y` of two
 /// points, then `h`) and then the three elements of `v`, and so has a reply, with the result in the place of `s`.
-const PATHS: [(&str, bool, &[u32]); 9] = [
-    ("s", false, &[0, 1, 2, 3, 4]),
-    ("s.ends", false, &[0, 1, 2, 3]),
-    ("s.ends.x", false, &[0, 2]),
-    ("s.ends.y", false, &[1, 3]),
-    ("s.h", false, &[4]),
-    ("v", false, &[5, 6, 7]),
-    ("return.ends.y", true, &[1, 3]),
-    ("return", true, &[0, 1, 2, 3, 4]),
-    ("v", true, &[5, 6, 7]),
+struct Led {
+    field: &'static str,
+    reply: bool,
+    places: &'static [u32],
+}
+
+const PATHS: [Led; 9] = [
+    Led {
+        field: "s",
+        reply: false,
+        places: &[0, 1, 2, 3, 4],
+    },
+    Led {
+        field: "s.ends",
+        reply: false,
+        places: &[0, 1, 2, 3],
+    },
+    Led {
+        field: "s.ends.x",
+        reply: false,
+        places: &[0, 2],
+    },
+    Led {
+        field: "s.ends.y",
+        reply: false,
+        places: &[1, 3],
+    },
+    Led {
+        field: "s.h",
+        reply: false,
+        places: &[4],
+    },
+    Led {
+        field: "v",
+        reply: false,
+        places: &[5, 6, 7],
+    },
+    Led {
+        field: "return.ends.y",
+        reply: true,
+        places: &[1, 3],
+    },
+    Led {
+        field: "return",
+        reply: true,
+        places: &[0, 1, 2, 3, 4],
+    },
+    Led {
+        field: "v",
+        reply: true,
+        places: &[5, 6, 7],
+    },
 ];
 
 /// The rule and the place of a refusal.
@@ -171,43 +302,46 @@ fn refusal(alloc: Global, text: &str) -> Result<Option<(u8, u32)>, NoMemory> {
     Ok(refusal_of(alloc, &checked, text))
 }
 
+/// Whether a policy is refused so; without a rule and a place it isn't refused.
+fn answers(alloc: Global, text: &str, wanted: Option<(u8, u32)>) -> Result<bool, NoMemory> {
+    Ok(refusal(alloc, text)? == wanted)
+}
+
 #[test]
 fn wrong_policies_are_refused(rt: HostRuntime) -> Result<(), Fail> {
-    for (text, rule, at) in REFUSED {
-        assert_eq!(rt; refusal(rt.alloc(), text)?, Some((rule, at)));
+    for case in &REFUSED {
+        assert!(rt; answers(rt.alloc(), case.text, Some((case.rule, case.at)))?);
     }
     Ok(())
 }
 
-/// A policy of one rule that redacts one field of a request of `kinds`.
-fn with_number(alloc: Global, field: &str, with: &str) -> Result<String, AllocError> {
-    format!(in alloc;
-        r#"{{"format":1,"rules":[{{"from":"purple","to":"orange","function":"kinds","on":"request","do":"redact","fields":[{{"field":"{field}","with":{with}}}]}}]}}"#
-    )
+/// The same of the policy that redacts a parameter of `kinds` with a number.
+fn number_answers(
+    alloc: Global,
+    field: &str,
+    with: &str,
+    wanted: Option<(u8, u32)>,
+) -> Result<bool, NoMemory> {
+    let text = with_number(alloc, field, with)?;
+    answers(alloc, &text, wanted)
 }
 
-/// The rule and the place of a refusal of that policy.
-fn number_refusal(alloc: Global, field: &str, with: &str) -> Result<Option<(u8, u32)>, NoMemory> {
-    let text = with_number(alloc, field, with)?;
-    refusal(alloc, &text)
+/// Whether the numbers at the ends of a parameter's type are read, and those past them refused.
+fn ends_there(alloc: Global, case: &Ends) -> Result<bool, NoMemory> {
+    Ok(
+        number_answers(alloc, case.field, case.least, None)?
+            && number_answers(alloc, case.field, case.greatest, None)?
+            && number_answers(alloc, case.field, case.below, Some((case.first, 1)))?
+            && number_answers(alloc, case.field, case.above, Some((case.last, 1)))?,
+    )
 }
 
 #[test]
 fn numbers_are_in_the_types_of_their_places(rt: HostRuntime) -> Result<(), Fail> {
-    for (field, least, greatest, below, above, first, last) in ENDS {
-        assert_eq!(rt; number_refusal(rt.alloc(), field, least)?, None);
-        assert_eq!(rt; number_refusal(rt.alloc(), field, greatest)?, None);
-        assert_eq!(rt; number_refusal(rt.alloc(), field, below)?, Some((first, 1)));
-        assert_eq!(rt; number_refusal(rt.alloc(), field, above)?, Some((last, 1)));
+    for case in &ENDS {
+        assert!(rt; ends_there(rt.alloc(), case)?);
     }
     Ok(())
-}
-
-/// A policy of one rule that redacts two fields of `draw`: that of the path, and a second time with another number.
-fn with_path(alloc: Global, on: &str, field: &str) -> Result<String, AllocError> {
-    format!(in alloc;
-        r#"{{"format":1,"rules":[{{"from":"purple","to":"orange","function":"draw","on":"{on}","do":"redact","fields":[{{"field":"{field}","with":5}},{{"field":"{field}","with":-6}}]}}]}}"#
-    )
 }
 
 /// Whether patches put a number at each of these places.
@@ -256,8 +390,8 @@ fn leads(alloc: Global, field: &str, reply: bool, places: &[u32]) -> Result<bool
 
 #[test]
 fn paths_lead_to_their_integers(rt: HostRuntime) -> Result<(), Fail> {
-    for (field, reply, places) in PATHS {
-        assert!(rt; leads(rt.alloc(), field, reply, places)?);
+    for case in &PATHS {
+        assert!(rt; leads(rt.alloc(), case.field, case.reply, case.places)?);
     }
     Ok(())
 }

@@ -1,4 +1,5 @@
 use Rattle.std.proofs.Common.{◌≡◌, ◌<◌, ◌≤◌, ◌+◌, ◌++◌, ◌∷◌, [], ℕ, Option, Some, false, length, sym, ap, subst, ◌∙◌, arith, length-append}
+use Rattle.cl_mean.specs.declared.checked.Checked.{Checked}
 use Rattle.guard_rules.specs.declared.resolve.Resolved.{Resolved}
 use Rattle.guard_rules.specs.Answer.{DraftAnswer}
 use Rattle.guard_rules.specs.Policy.{failing, is_named, is_within, rule_of}
@@ -9,7 +10,7 @@ use Rattle.guard_rules.proofs.policy.resolve_all.Goals as goal
 pub returns-in-None : goal.returns-in-None
 returns-in-None c =
     let h : c.loop-draft.draft-index < length c.args.drafts.now = omega arith in
-    let named : is_named c.args.checked.now c.draft-item.result ≡ false = subst (λ (o : Option Resolved). DraftAnswer c.args.checked.now c.draft-item.result o) c.in-None.is c.in_ok-rule.ensures in
+    let named : is_named c.args.checked.now c.draft-item.result ≡ false = subst (λ (o : Option Resolved). DraftAnswer c.args.checked.now c.draft-item.result o) c.in-None.is (subst (λ (k : Checked). DraftAnswer k c.draft-item.result c.in_ok-rule.field-0) c.loop-draft.invariant.source c.in_ok-rule.ensures.answer) in
     let count : c.len.result ≡ c.loop-draft.draft-index = cc in
     stops_at 3 c.len.result (failing (is_named c.args.checked.now) 1 c.args.drafts.now) c.stop_at.result c.stop_at.ensures
     (λ (at : ℕ) (e : at ≡ c.len.result + 1). fail_here (is_named c.args.checked.now) c.args.drafts.now c.draft-item.result c.loop-draft.draft-index at (failing (is_named c.args.checked.now) 1 c.args.drafts.now) h c.draft-item.is named (e ∙ ap (λ (k : ℕ). k + 1) count) c.loop-draft.invariant.failed)
@@ -17,9 +18,10 @@ returns-in-None c =
 pub loop-draft-preserved : goal.loop-draft-preserved
 loop-draft-preserved c =
     let h : c.loop-draft.draft-index < length c.args.drafts.now = omega arith in
-    let got : DraftAnswer c.args.checked.now c.draft-item.result (Some c.in-Some.rule) = subst (λ (o : Option Resolved). DraftAnswer c.args.checked.now c.draft-item.result o) c.in-Some.is c.in_ok-rule.ensures in
+    let got : DraftAnswer c.args.checked.now c.draft-item.result (Some c.in-Some.rule) = subst (λ (o : Option Resolved). DraftAnswer c.args.checked.now c.draft-item.result o) c.in-Some.is (subst (λ (k : Checked). DraftAnswer k c.draft-item.result c.in_ok-rule.field-0) c.loop-draft.invariant.source c.in_ok-rule.ensures.answer) in
     let behind : c.push.new.self.items ≡ c.loop-draft.rules.items ++ c.in-Some.rule ∷ [] = c.in_ok-push-in-Some.ensures.items in
     record {
+      source = c.in_ok-rule.ensures.kept ∙ c.loop-draft.invariant.source;
       found = step_by (λ r. r.rule) c.args.drafts.now c.draft-item.result c.loop-draft.draft-index c.loop-draft.rules.items c.push.new.self.items c.in-Some.rule h c.draft-item.is behind (rule_of c.args.checked.now) _ got.1 c.loop-draft.invariant.found;
       failed = pass_more (is_named c.args.checked.now) c.args.drafts.now c.draft-item.result c.loop-draft.draft-index _ h c.draft-item.is got.0 c.loop-draft.invariant.failed;
       within = step_map (λ r. r.fits) c.args.drafts.now c.draft-item.result c.loop-draft.draft-index c.loop-draft.rules.items c.push.new.self.items c.in-Some.rule h c.draft-item.is behind (is_within c.args.checked.now) _ got.2 c.loop-draft.invariant.within;
