@@ -34,6 +34,7 @@ fn levels_of(alloc: Global, typed: &Typed) -> Result<Levels, End>
     }
 }
 
+#[tactic(auto, using(crate::proofs::Own::own_typed))]
 fn levels(alloc: Global, source: &str) -> Result<Levels, End> {
     let bytes = source.as_bytes();
     if bytes.len() > SOURCE_BYTES {
