@@ -1,4 +1,4 @@
 pub mod Borne
 pub mod Firsts
 pub mod Groups
-mod Limits
+pub mod Limits

@@ -19,7 +19,7 @@ pub all_from : {X : Type 0} (P : X → Type 0) (xs : List X) → ((x : X) → Co
 all_from P xs h = λ k d l. h (slice_index_or xs k d) (All-contains_itself xs k d l)
 
 -- a use of a function
-used_at : (bodies : List Body) (f : ℕ) (u : Use) → All (λ b. All IsBelow b.uses) bodies → Contains (slice_index_or (map (λ b. b.uses) bodies) f []) u → IsBelow u × (f < length bodies)
+pub used_at : (bodies : List Body) (f : ℕ) (u : Use) → All (λ b. All IsBelow b.uses) bodies → Contains (slice_index_or (map (λ b. b.uses) bodies) f []) u → IsBelow u × (f < length bodies)
 used_at [] f u all h = absurd (in_none u h)
 used_at (b ∷ bs) zero u all h = (subst IsBelow h.2 (all 0 b (omega arith) h.0 u h.1), omega arith)
 used_at (b ∷ bs) (suc f) u all h = let r = used_at bs f u (λ k d l. all (suc k) d (omega arith)) h in (r.0, omega (arith, r.1))
