@@ -15,6 +15,8 @@ use Rattle.cl_levels.specs.declared.uses.Use.TheVariants.{Named, Called}
 use Rattle.cl_levels.specs.declared.uses.Variable.{Variable}
 use Rattle.cl_levels.specs.declared.uses.Variable.TheVariants.{Static, Local}
 use Rattle.cl_levels.specs.Crossings.{Loan, NamesLent, LentTwice, loan_in, loans_of, aliased}
+use Rattle.std.specs.Result.{IsErrAnd}
+use Rattle.cl_levels.specs.Placed.{Places, Holds}
 use Rattle.cl_levels.specs.Uses.{uses_of, each_from}
 use Rattle.cl_levels.proofs.Each.{each_same}
 use Rattle.cl_loans.specs.Loans.{alone, loan_by, loans_in, NamesIt, NamesOne, HasAlias, Clashes, PlacesOf}
@@ -36,9 +38,12 @@ module _ (P : Loan → Type 0) where
   here x p = (0, ((x, (refl, (refl, p))), λ other at f. omega arith))
 
   -- past a loan, and past several
+  past_holds : (x : Loan) (ys : List Loan) → (P x → ⊥) → Holds (PlacesOf P ys) → Holds (PlacesOf P (x ∷ ys))
+  past_holds x ys not a zero line f = not (subst P (sym (same_Some x f.0 f.1.0)) f.1.1.1)
+  past_holds x ys not a (suc position) line f = a position line f
+
   past : (x : Loan) (ys : List Loan) (r : Result (Unit {0}) Stop) → (P x → ⊥) → Answers r (PlacesOf P ys) → Answers r (PlacesOf P (x ∷ ys))
-  past x ys (Ok u) not a zero line f = not (subst P (sym (same_Some x f.0 f.1.0)) f.1.1.1)
-  past x ys (Ok u) not a (suc position) line f = a position line f
+  past x ys (Ok u) not a = past_holds x ys not a
   past x ys (Err NoMemory) not a = a
   past x ys (Err (At line)) not a = (suc a.0, (a.1.0, least))
     where
@@ -89,10 +94,15 @@ module _ (P : Loan → Type 0) where
   pub ends : (rest whole : List Loan) → rest ≡ [] → Left rest whole → Answers (Ok tt) (PlacesOf P whole)
   ends rest whole e left = left (Ok tt) (nothing rest e)
 
+-- an error handed on
+pub handed : (places : Places) (r : Result (Unit {0}) Stop) (e : Stop) → IsErrAnd r (λ t. t ≡ e) → Answers (Err e) places → Answers r places
+handed places (Ok u) e h a = absurd h
+handed places (Err t) e h a = subst (λ s. Answers (Err s) places) (sym h) a
+
 -- the same places under another name
 pub same_places : (P Q : Loan → Type 0) → ((x : Loan) → P x → Q x) → ((x : Loan) → Q x → P x) → (xs : List Loan) (r : Result (Unit {0}) Stop)
     → Answers r (PlacesOf P xs) → Answers r (PlacesOf Q xs)
-same_places P Q to back xs (Ok u) a position line f = a position line (f.0, (f.1.0, (f.1.1.0, back f.0 f.1.1.1)))
+same_places P Q to back xs (Ok u) a = λ position line f. a position line (f.0, (f.1.0, (f.1.1.0, back f.0 f.1.1.1)))
 same_places P Q to back xs (Err NoMemory) a = a
 same_places P Q to back xs (Err (At line)) a =
     (a.0, ((a.1.0.0, (a.1.0.1.0, (a.1.0.1.1.0, to a.1.0.0 a.1.0.1.1.1))), λ other at f. a.1.1 other at (f.0, (f.1.0, (f.1.1.0, back f.0 f.1.1.1)))))

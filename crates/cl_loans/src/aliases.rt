@@ -32,12 +32,12 @@ fn is_named(named: &Carried, f: usize, k: usize) -> bool
 }
 
 /// The same of a variable.
-fn names_it(named: &Carried, f: usize, variable: Variable) -> bool
+fn names_it(named: &Carried, f: usize, variable: &Variable) -> bool
     requires { f < FUNCTIONS }
-    ensures { IsTrue result ↔ NamesIt named.now f variable }
+    ensures { IsTrue result ↔ NamesIt named.now f variable.now }
 {
     match variable {
-        Variable::Static(k) => is_named(named, f, k),
+        Variable::Static(k) => is_named(named, f, *k),
         Variable::Local(_) => false,
     }
 }
@@ -48,7 +48,7 @@ fn names_one(named: &Carried, f: usize, lent: &[Variable]) -> bool
     ensures { IsTrue result ↔ NamesOne named.now f lent.now }
 {
     for variable in lent {
-        if names_it(named, f, *variable) {
+        if names_it(named, f, variable) {
             return true;
         }
     }

@@ -6,8 +6,8 @@ ghost use Rattle.cl_loans.specs.Loans.{same};
 
 use cl_levels::uses::Variable;
 
-fn same(a: Variable, b: Variable) -> bool
-    ensures { result ≡ same a b }
+fn same(a: &Variable, b: &Variable) -> bool
+    ensures { result ≡ same a.now b.now }
 {
     match (a, b) {
         (Variable::Static(j), Variable::Static(k)) => j == k,
@@ -18,11 +18,11 @@ fn same(a: Variable, b: Variable) -> bool
 }
 
 /// Whether a variable is one of these.
-fn has(variables: &[Variable], variable: Variable) -> bool
-    ensures { IsTrue result ↔ Contains variables.now variable }
+fn has(variables: &[Variable], variable: &Variable) -> bool
+    ensures { IsTrue result ↔ Contains variables.now variable.now }
 {
     for other in variables {
-        if same(*other, variable) {
+        if same(other, variable) {
             return true;
         }
     }
@@ -42,7 +42,7 @@ pub fn is_twice(variables: &[Variable]) -> bool
     ensures { IsTrue result ↔ LentTwice variables.now }
 {
     for (i, variable) in variables.iter().enumerate() {
-        if has(behind(variables, i), *variable) {
+        if has(behind(variables, i), variable) {
             return true;
         }
     }

@@ -6,18 +6,18 @@ use Rattle.cl_loans.proofs.twice.has.Goals as goal
 
 pub returns-then-same : goal.returns-then-same
 returns-then-same c = (
-  λ t. subst (λ x. Contains c.args.variables.now x) (is_same c.other-item.result c.args.variable (sym c.same.ensures ∙ c.if-same.true))
+  λ t. subst (λ x. Contains c.args.variables.now x) (is_same c.other-item.result c.args.variable.now (sym c.same.ensures ∙ c.if-same.true))
       (stands c.args.variables.now c.loop-other.other-index c.other-item.result (omega arith) c.other-item.is),
   λ h. refl,
 )
 
 pub loop-other-preserved : goal.loop-other-preserved
 loop-other-preserved c = λ h.
-    among_next c.args.variables.now c.loop-other.other-index c.other-item.result c.args.variable (omega arith) c.other-item.is
-    (other c.other-item.result c.args.variable (sym c.same.ensures ∙ c.if-same.false)) (c.loop-other.invariant h)
+    among_next c.args.variables.now c.loop-other.other-index c.other-item.result c.args.variable.now (omega arith) c.other-item.is
+    (other c.other-item.result c.args.variable.now (sym c.same.ensures ∙ c.if-same.false)) (c.loop-other.invariant h)
 
 pub returns : goal.returns
 returns c = (
   λ t. absurd (false≢true t),
-  λ h. absurd (among_none c.args.variables.now c.loop-other.other-index c.args.variable (omega arith) (c.loop-other.invariant h)),
+  λ h. absurd (among_none c.args.variables.now c.loop-other.other-index c.args.variable.now (omega arith) (c.loop-other.invariant h)),
 )
