@@ -62,6 +62,11 @@ same_itself (Local k) = eq-eqb k k refl
 pub other : (v w : Variable) → same v w ≡ false → v ≡ w → ⊥
 other v w e f = false≢true (sym e ∙ ap (same v) (sym f) ∙ same_itself v)
 
+pub no_default : {A : Type 0} (xs : List A) (i : ℕ) (d : A) → i < length xs → slice_index_or xs i d ≡ slice_index_or xs i (slice_index_or xs i d)
+no_default [] i d l = absurd (omega arith)
+no_default (x ∷ xs) zero d l = refl
+no_default (x ∷ xs) (suc i) d l = no_default xs i d (omega arith)
+
 pub stands : {A : Type 0} (xs : List A) (i : ℕ) (x : A) → i < length xs → x ≡ slice_index_or xs i x → Contains xs x
 stands xs i x within is = (i, within, sym is)
 

@@ -29,6 +29,9 @@ module _ (P : Loan → Type 0) where
   pub nothing : (loans : List Loan) → loans ≡ [] → Answers (Ok tt) (PlacesOf P loans)
   nothing loans e position line f = none-some f.0 (subst (λ ls. slice_get ls position ≡ Some f.0) e f.1.0)
 
+  pub no_loan : (typed : Typed) (k line : ℕ) → Answers (Ok tt) (PlacesOf P (loan_by typed (Named k line)))
+  no_loan typed k line position at f = none-some f.0 f.1.0
+
   -- one loan
   pub fine : (x : Loan) → (P x → ⊥) → Answers (Ok tt) (PlacesOf P (x ∷ []))
   fine x not zero line f = not (subst P (sym (same_Some x f.0 f.1.0)) f.1.1.1)

@@ -6,6 +6,7 @@ ghost use Rattle.cl_calls.specs.Cycles.{Answers};
 ghost use Rattle.cl_groups.specs.Ties.{IsBelow};
 ghost use Rattle.cl_levels.specs.Crossings as crossing;
 ghost use Rattle.cl_levels.specs.Uses.{uses_of};
+ghost use Rattle.cl_levels.specs.declared.uses.Use.TheVariants as used;
 ghost use Rattle.cl_loans.specs.Loans.{alone, lent_by, loan_by, loans_in, IsNamed, NamesIt, NamesOne, HasAlias, Clashes, PlacesOf};
 
 use crate::lent::lent;
@@ -86,6 +87,23 @@ fn clashes(
     Ok(has_alias(searched.named, callee, lent.as_slice()))
 }
 
+fn look_call(
+    alloc: Global,
+    searched: &Searched<'_>,
+    callee: usize,
+    roots: &[Option<Variable>],
+    line: u32,
+) -> Result<(), Stop>
+    requires { callee < FUNCTIONS }
+    ensures { Answers result (PlacesOf (Clashes searched.now.named.now) (loan_by searched.now.typed.now (used.Called callee roots.now line))) }
+{
+    if clashes(alloc, searched, callee, roots)? {
+        return Err(Stop::At(line));
+    }
+    Ok(())
+}
+
+#[tactic(auto, using(crate::proofs::Searched::no_loan))]
 fn look_use(alloc: Global, searched: &Searched<'_>, used: &Use) -> Result<(), Stop>
     requires { IsBelow used.now }
     ensures { Answers result (PlacesOf (Clashes searched.now.named.now) (loan_by searched.now.typed.now used.now)) }
@@ -96,12 +114,7 @@ fn look_use(alloc: Global, searched: &Searched<'_>, used: &Use) -> Result<(), St
             callee,
             roots,
             line,
-        } => {
-            if clashes(alloc, searched, *callee, roots.as_slice())? {
-                return Err(Stop::At(*line));
-            }
-            Ok(())
-        }
+        } => look_call(alloc, searched, *callee, roots.as_slice(), *line),
     }
 }
 
