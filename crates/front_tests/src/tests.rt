@@ -44,7 +44,10 @@ fn misjudged(alloc: Global) -> Option<(usize, Option<End>)> {
 
 fn add_row(alloc: Global, text: &mut String, row: &GedlRow) -> Result<(), AllocError> {
     let name = row.name.text();
-    let shown = format!(in alloc; "{} {} {name} {} {};", row.from, row.to, row.request, row.reply)?;
+    let shown = format!(in alloc;
+        "{} {} {name} {} {};",
+        row.from, row.to, row.request, row.reply
+    )?;
     text.push_str(shown.as_str())
 }
 
@@ -151,7 +154,10 @@ fn levels_may_call_in_a_row_and_not_in_a_circle(rt: HostRuntime) -> Result<(), F
     let row = levels(alloc, "")?;
     let circle = levels(alloc, "f0(); ")?;
     assert_eq!(rt; count(alloc, row.as_str()), Ok(31));
-    assert_eq!(rt; count(alloc, circle.as_str()), Err(End::Refused { rule: 28, line: 98 }));
+    assert_eq!(rt;
+        count(alloc, circle.as_str()),
+        Err(End::Refused { rule: 28, line: 98 })
+    );
     Ok(())
 }
 
@@ -162,7 +168,13 @@ fn so_many_brackets_may_be_open(rt: HostRuntime) -> Result<(), Fail> {
     let more = brackets(alloc, 64)?;
     let many = brackets(alloc, 300)?;
     assert_eq!(rt; count(alloc, most.as_str()), Ok(0));
-    assert_eq!(rt; count(alloc, more.as_str()), Err(End::Refused { rule: 23, line: 2 }));
-    assert_eq!(rt; count(alloc, many.as_str()), Err(End::Refused { rule: 23, line: 2 }));
+    assert_eq!(rt;
+        count(alloc, more.as_str()),
+        Err(End::Refused { rule: 23, line: 2 })
+    );
+    assert_eq!(rt;
+        count(alloc, many.as_str()),
+        Err(End::Refused { rule: 23, line: 2 })
+    );
     Ok(())
 }

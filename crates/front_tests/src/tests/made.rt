@@ -24,9 +24,13 @@ fn add_definition(
     level: usize,
     remote: usize,
 ) -> Result<(), AllocError> {
-    let head = format!(in alloc; "#pragma cle def F{level} {{\"level\":\"l{level}\",\"cdf\":[{{\"remotelevel\":\"l{remote}\"")?;
+    let head = format!(in alloc;
+        "#pragma cle def F{level} {{\"level\":\"l{level}\",\"cdf\":[{{\"remotelevel\":\"l{remote}\""
+    )?;
     text.push_str(head.as_str())?;
-    text.push_str(",\"direction\":\"bidirectional\",\"guarddirective\":{\"operation\":\"allow\"},\"argtaints\":[],\"codtaints\":[],\"rettaints\":[]}]}\n")
+    text.push_str(
+        ",\"direction\":\"bidirectional\",\"guarddirective\":{\"operation\":\"allow\"},\"argtaints\":[],\"codtaints\":[],\"rettaints\":[]}]}\n",
+    )
 }
 
 /// Adds the definitions of labels of 32 levels, the first of which is called by the last, and each other by the one before it.
@@ -44,7 +48,9 @@ fn add_functions(alloc: Global, text: &mut String) -> Result<(), AllocError> {
     let mut next = 31usize;
     for place in 1..32usize {
         let level = 31 - place;
-        let row = format!(in alloc; "#pragma cle F{level}\nvoid f{level}(void) {{ f{next}(); }}\n")?;
+        let row = format!(in alloc;
+            "#pragma cle F{level}\nvoid f{level}(void) {{ f{next}(); }}\n"
+        )?;
         text.push_str(row.as_str())?;
         next = level;
     }
