@@ -1,2 +1,2 @@
+pub mod Payloads
 pub mod Unique
-pub mod Wide

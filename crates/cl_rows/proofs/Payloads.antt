@@ -22,10 +22,9 @@ size_is typed labels levels f reply = by (signatures_in typed f) refl
 
 pub too_wide_is : (typed : Typed) (labels : LabelTable) (levels : Levels) (cs : List Call) → cs ≡ crossings_of (levelled typed labels levels)
     → too_wide_in typed cs ≡ too_wide (levelled typed labels levels)
-unfolding too_wide too_wide_in
+unfolding too_wide too_wide_in wide_in wide_from
 too_wide_is typed labels levels cs e = go 0 typed.functions
   where
     go : (f : ℕ) (facts : List FnFact) → wide_in typed cs f facts ≡ wide_from (levelled typed labels levels) f facts
-    unfolding wide_in wide_from
     go f [] = refl
     go f (fact ∷ facts) = rw (size_is typed labels levels f false, size_is typed labels levels f true, e, go (suc f) facts) refl
