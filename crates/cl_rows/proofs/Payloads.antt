@@ -1,5 +1,5 @@
 -- The rule on wide payloads, of a program.
-use Rattle.std.proofs.Common.{◌≡◌, ℕ, suc, List, [], ◌∷◌, Bool, refl}
+use Rattle.std.proofs.Common.{◌≡◌, ℕ, suc, List, [], ◌∷◌, Bool, true, false, refl}
 use Rattle.cl_mean.specs.declared.checked.FnFact.{FnFact}
 use Rattle.cl_mean.specs.declared.checked.Levels.{Levels}
 use Rattle.cl_mean.specs.declared.checked.Typed.{Typed}

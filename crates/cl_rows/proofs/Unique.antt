@@ -73,7 +73,7 @@ same_rows (x ∷ xs) (y ∷ ys) p q into from =
 
 -- ---- what a row says is settled by its levels and its function
 
-row : ℕ → ℕ → ℕ → Word → Word → Operation → List GedlArg → CType → ℕ → ℕ → Bool → GedlRow
+abbrev row : ℕ → ℕ → ℕ → Word → Word → Operation → List GedlArg → CType → ℕ → ℕ → Bool → GedlRow
 row from to function name label operation args result request reply oneway = record {
   from = from;
   to = to;
