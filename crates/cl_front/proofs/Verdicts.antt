@@ -30,7 +30,7 @@ use Rattle.cl_split.specs.Answer as splitting
 use Rattle.cl_split.specs.declared.stop.SplitStop.{SplitStop}
 use Rattle.cl_split.specs.declared.stop.SplitStop.TheVariants as split
 use Rattle.cl_split.proofs.Answered as levels
-use Rattle.cl_split.proofs.Crossed as rows
+use Rattle.cl_split.proofs.Lines as rows
 use Rattle.cl_split.proofs.Refused.{one_rows}
 use Rattle.std.specs.Result.{IsErrAnd}
 use Rattle.cl_front.specs.declared.stop.FrontStop.{FrontStop}

@@ -1,6 +1,6 @@
 pub mod Answered
 mod Calling
-pub mod Crossed
+pub mod Lines
 mod Given
 mod Laws
 pub mod Refused

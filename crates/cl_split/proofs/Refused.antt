@@ -15,7 +15,7 @@ use Rattle.cl_split.specs.declared.stop.SplitStop.{SplitStop}
 use Rattle.cl_split.specs.declared.stop.SplitStop.TheVariants as stop
 use Rattle.cl_split.specs.Answer.{IsFailure, RuleAnswer, HasRows, RowsAnswer, CrossingsFail}
 use Rattle.cl_split.specs.Crossed.{ruled}
-use Rattle.cl_split.proofs.Crossed.{one_failure}
+use Rattle.cl_split.proofs.Lines.{one_failure}
 use Rattle.cl_typing.specs.Rules.{Lines, Begins}
 
 -- ---- one rule
