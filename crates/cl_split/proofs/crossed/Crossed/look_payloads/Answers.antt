@@ -1,7 +1,7 @@
 use Rattle.std.proofs.Common.{◌∙◌}
 use Rattle.cl_levels.specs.Crossings.{too_wide}
 use Rattle.cl_levels.specs.Placed.{listed}
-use Rattle.cl_rows.proofs.Wide.{too_wide_is}
+use Rattle.cl_rows.proofs.Payloads.{too_wide_is}
 use Rattle.cl_split.specs.Crossed.{program_of}
 use Rattle.cl_split.proofs.Calling.{callees_small}
 use Rattle.cl_split.proofs.Laws.{few_functions}

@@ -2,7 +2,7 @@ use Rattle.std.proofs.Common.{ap, sym, ◌∙◌}
 use Rattle.cl_calls.proofs.Filtered.{no_entry_is}
 use Rattle.cl_levels.specs.Crossings.{no_entry, too_wide}
 use Rattle.cl_levels.proofs.Lists.{holds_empty}
-use Rattle.cl_rows.proofs.Wide.{too_wide_is}
+use Rattle.cl_rows.proofs.Payloads.{too_wide_is}
 use Rattle.cl_split.specs.Crossed.{program_of}
 use Rattle.cl_split.proofs.Calling.{small_levels, callees_within}
 use Rattle.cl_split.proofs.Laws.{few_functions}
