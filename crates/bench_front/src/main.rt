@@ -7,6 +7,8 @@ ghost use Rattle.std.specs.Prelude.{◌≤◌, length, vec_len};
 use cl_base::host::HostFiles;
 use cl_base::limits::SOURCE_BYTES;
 use cl_base::outside::Files;
+use cl_front::accept::accept;
+use cl_front::stop::FrontStop;
 use cl_forbidden::stmts::look_program as look_for_tokens;
 use cl_large::items::look_program as look_for_sizes;
 use cl_lex::lex::lex;
@@ -89,9 +91,24 @@ fn whole(rt: &HostRuntime, program: Program) -> io::Result<()> {
     }
 }
 
+/// Times the whole front end.
+fn checked(rt: &HostRuntime, source: &[u8]) -> io::Result<()>
+    requires { length source.now ≤ 1048576 }
+{
+    let start = Instant::now(rt)?;
+    let answer = accept(rt.alloc(), source);
+    told(rt, "check", start)?;
+    match answer {
+        Ok(_) => print!(rt; " (accepted)"),
+        Err(FrontStop::Refused { rule, line }) => print!(rt; " (rule {rule} fails at line {line})"),
+        Err(FrontStop::NoMemory) => print!(rt; " (out of memory)"),
+    }
+}
+
 fn measured(rt: &HostRuntime, source: &[u8]) -> io::Result<()>
     requires { length source.now ≤ 1048576 }
 {
+    checked(rt, source)?;
     let start = Instant::now(rt)?;
     let Ok(tokens) = lex(rt.alloc(), source) else {
         told(rt, "lexer", start)?;
