@@ -1,3 +1,3 @@
 pub mod Bearing
 pub mod Chosen
-mod Noted
+pub mod Noted
