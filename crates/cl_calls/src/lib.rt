@@ -4,3 +4,4 @@
 pub mod calls;
 pub mod cycles;
 pub mod entries;
+pub mod signatures;

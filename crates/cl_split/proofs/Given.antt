@@ -52,7 +52,7 @@ module _ (typed : Typed) (labels : LabelTable) (l : IsLabelled typed labels) whe
   sure x (Some k) i e =
       absurd (in_range labels.labels k (subst (λ o. MaybeWithin labels o) i (label_within x)) (none_mapped (label_at labels.labels (Some k)) e))
 
-  below : (o : Option ℕ) (level : ℕ) → option_map (λ l. l.level) (label_at labels.labels o) ≡ Some level → level < 32
+  pub below : (o : Option ℕ) (level : ℕ) → option_map (λ l. l.level) (label_at labels.labels o) ≡ Some level → level < 32
   below None level e = absurd (none-some level e)
   below (Some k) level e =
       let f = some_mapped (label_at labels.labels (Some k)) level e in

@@ -1,5 +1,7 @@
 pub mod Answered
+mod Calling
 pub mod Crossed
 mod Given
 mod Laws
+pub mod Refused
 mod Steps

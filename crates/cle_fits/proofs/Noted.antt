@@ -1,5 +1,5 @@
 -- Functions that are noted with a label that fits them.
-use Rattle.std.proofs.Common.{◌≡◌, ℕ, Bool, true, false, List, [], Option, Some, None, refl, sym, ap, subst, ◌∙◌, if◌then◌else◌, bytes_eq}
+use Rattle.std.proofs.Common.{◌≡◌, ℕ, Bool, true, false, List, [], slice_get, Option, Some, None, refl, sym, ap, subst, ◌∙◌, if◌then◌else◌, bytes_eq}
 use Rattle.std.proofs.lemmas.Option.{none-some, same_Some}
 use Rattle.std.specs.Map.{update}
 use Rattle.cl_tree.specs.declared.tree.Program.{Program}
@@ -11,6 +11,7 @@ use Rattle.cl_labelling.specs.Regions.{function}
 use Rattle.cl_scope.proofs.Places.{same_name}
 use Rattle.cl_scope.specs.Table.{place_at}
 use Rattle.cl_scope.specs.declared.latest.Latest.{Latest}
+use Rattle.cl_typing.specs.Rules.{unless}
 use Rattle.cle_fits.specs.Leaves.{AllFit}
 
 -- no place, so the condition holds
@@ -21,6 +22,12 @@ holds_then false line e = cc
 module _ (program : Program) (labels : List LabelFact) where
   pub none_noted : (passed : Latest) → ((q : Word) → place_at passed q ≡ None) → AllFit program labels passed
   none_noted passed e name k is = absurd (none-some k (sym (e name) ∙ is))
+
+  -- where the rule doesn't fail, the label fits
+  pub fitting : (name : Word) (label line : ℕ) (t : Bool) → t ≡ subject_fits program labels (function name) (Some label) → unless t line ≡ []
+      → subject_fits program labels (function name) (Some label) ≡ true
+  fitting name label line true e f = sym e
+  fitting name label line false e f = absurd (none-some line (sym (ap (λ ls. slice_get ls 0) f)))
 
   one_more : (name q : Word) (label k : ℕ) (old : Option ℕ) (t : Bool) → bytes_eq name q ≡ t
       → subject_fits program labels (function name) (Some label) ≡ true

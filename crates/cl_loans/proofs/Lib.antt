@@ -1,0 +1,4 @@
+mod Behind
+mod Below
+mod Lists
+mod Searched

@@ -1,0 +1,5 @@
+//! The rows of the calls across levels, and the sizes of their payloads.
+#![tactic(auto)]
+
+pub mod rows;
+pub mod wide;
