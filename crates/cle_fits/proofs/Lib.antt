@@ -1,3 +1,3 @@
 pub mod Bearing
 pub mod Chosen
-pub mod Noted
+mod Noted

@@ -5,7 +5,6 @@ use Rattle.std.specs.Map.{update}
 use Rattle.cl_tree.specs.declared.tree.Program.{Program}
 use Rattle.cl_tree.specs.Words.{Word}
 use Rattle.cl_mean.specs.declared.labels.LabelFact.{LabelFact}
-use Rattle.cl_typing.specs.Rules.{unless}
 use Rattle.cl_labelling.specs.Fits.{subject_fits}
 use Rattle.cl_labelling.specs.Regions.{function}
 use Rattle.cl_scope.proofs.Places.{same_name}
@@ -13,11 +12,6 @@ use Rattle.cl_scope.specs.Table.{place_at}
 use Rattle.cl_scope.specs.declared.latest.Latest.{Latest}
 use Rattle.cl_typing.specs.Rules.{unless}
 use Rattle.cle_fits.specs.Leaves.{AllFit}
-
--- no place, so the condition holds
-pub holds_then : (b : Bool) (line : ℕ) → unless b line ≡ [] → b ≡ true
-holds_then true line e = refl
-holds_then false line e = cc
 
 module _ (program : Program) (labels : List LabelFact) where
   pub none_noted : (passed : Latest) → ((q : Word) → place_at passed q ≡ None) → AllFit program labels passed
