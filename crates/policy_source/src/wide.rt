@@ -13,6 +13,9 @@ use std::alloc::Global;
 /// Members of `struct many`.
 const MANY: u32 = 4_000;
 
+/// Structs of `deep` behind the first.
+const DEPTH: u32 = 10;
+
 /// `void flat(char x, char v[4000]) { }`
 fn flat(alloc: Global) -> Result<Item, NoMemory> {
     let mut params = Items::new(alloc);
@@ -66,8 +69,45 @@ fn members(alloc: Global) -> Result<Item, NoMemory> {
     function(alloc, "members", CType::Void, params)
 }
 
+/// `struct d0 { char x; };`
+fn innermost(alloc: Global) -> Result<Item, NoMemory> {
+    let mut members = Items::new(alloc);
+    add(alloc, &mut members, "x", integer(IntKind::I8))?;
+    structure(alloc, "d0", members)
+}
+
+/// `struct dK { char a; struct dJ n[2]; char z; };`, where `J` is one less than `K`.
+fn around(alloc: Global, place: u32) -> Result<Item, NoMemory> {
+    let tag = format!(in alloc; "d{place}")?;
+    let inner = format!(in alloc; "d{}", place.saturating_sub(1))?;
+    let mut members = Items::new(alloc);
+    add(alloc, &mut members, "a", integer(IntKind::I8))?;
+    let elements = array(alloc, named(alloc, &inner)?, 2)?;
+    add(alloc, &mut members, "n", elements)?;
+    add(alloc, &mut members, "z", integer(IntKind::I8))?;
+    structure(alloc, &tag, members)
+}
+
+/// `void deep(struct d10 s, char last) { }`
+fn deep(alloc: Global) -> Result<Item, NoMemory> {
+    let mut params = Items::new(alloc);
+    add(alloc, &mut params, "s", named(alloc, "d10")?)?;
+    add(alloc, &mut params, "last", integer(IntKind::I8))?;
+    function(alloc, "deep", CType::Void, params)
+}
+
+/// The structs of `deep`, and the function.
+fn add_deep(alloc: Global, items: &mut Items<Item>) -> Result<(), NoMemory> {
+    items.push(innermost(alloc)?)?;
+    for before in 0..DEPTH {
+        items.push(around(alloc, before.saturating_add(1))?)?;
+    }
+    items.push(deep(alloc)?)?;
+    Ok(())
+}
+
 /// The functions that `purple` calls at `orange`, each with its item: `draw`, and those with wide requests, of which ten share one.
-const CALLED: [(&str, u32); 13] = [
+const CALLED: [(&str, u32); 14] = [
     ("draw", 2),
     ("flat", 6),
     ("nested", 7),
@@ -81,6 +121,7 @@ const CALLED: [(&str, u32); 13] = [
     ("members7", 8),
     ("members8", 8),
     ("members9", 8),
+    ("deep", 20),
 ];
 
 /// The levels of `source`, with the functions of `CALLED`.
@@ -95,5 +136,6 @@ pub fn checked(alloc: Global) -> Result<Checked, NoMemory> {
     items.push(flat(alloc)?)?;
     items.push(nested(alloc)?)?;
     items.push(members(alloc)?)?;
+    add_deep(alloc, &mut items)?;
     checked_of(alloc, items, &CALLED)
 }

@@ -3,4 +3,5 @@
 mod laws;
 mod layouts;
 mod policies;
+mod reading;
 mod rules;

@@ -1,8 +1,6 @@
+use crate::tests::reading::read;
 use cl_base::name::NoMemory;
-use cl_mean::checked::Checked;
 use cl_mean::law::{Asked, Ruling};
-use guard_rules::policy::read_policy;
-use policy_source::source::checked;
 use std::alloc::Global;
 use std::test::Fail;
 
@@ -57,33 +55,22 @@ const JUDGED: [Judged; 4] = [
 ];
 
 /// What the law of a policy rules of `draw`; None where the policy isn't read.
-fn ruling_of(
-    alloc: Global,
-    checked: &Checked,
-    text: &str,
-    reply: bool,
-    values: &mut [i128],
-) -> Option<Ruling> {
-    let asked = Asked {
-        from: 0,
-        to: 1,
-        function: 0,
-        reply,
-    };
-    match read_policy(alloc, text.as_bytes(), checked) {
-        Ok(mut law) => Some(law.judge(asked, values)),
-        Err(_) => None,
-    }
-}
-
 fn ruling(
     alloc: Global,
     text: &str,
     reply: bool,
     values: &mut [i128],
 ) -> Result<Option<Ruling>, NoMemory> {
-    let checked = checked(alloc)?;
-    Ok(ruling_of(alloc, &checked, text, reply, values))
+    let asked = Asked {
+        from: 0,
+        to: 1,
+        function: 0,
+        reply,
+    };
+    match read(alloc, text)? {
+        Ok(mut law) => Ok(Some(law.judge(asked, values))),
+        Err(_) => Ok(None),
+    }
 }
 
 fn judges(alloc: Global, case: &Judged) -> Result<bool, NoMemory> {

@@ -1,8 +1,6 @@
+use crate::tests::reading::{Outcome, answers, read};
 use cl_base::name::NoMemory;
-use cl_mean::checked::Checked;
-use cl_mean::law::{Asked, GuardAct, Law, Patch, Rule, Ruling};
-use guard_rules::policy::{PolicyStop, read_policy};
-use policy_source::source::checked;
+use cl_mean::law::{GuardAct, Law, Patch, Rule};
 use policy_source::texts::{with_number, with_path};
 use std::alloc::Global;
 use std::test::Fail;
@@ -288,39 +286,20 @@ const PATHS: [Led; 9] = [
     },
 ];
 
-/// The rule and the place of a refusal.
-fn refusal_of(alloc: Global, checked: &Checked, text: &str) -> Option<(u8, u32)> {
-    match read_policy(alloc, text.as_bytes(), checked) {
-        Err(PolicyStop::Rule { rule, at }) => Some((rule, at)),
-        _ => None,
-    }
-}
-
-// A checked source is held in such small functions alone: where a test with many exits holds it, each exit's proof drops the tree.
-fn refusal(alloc: Global, text: &str) -> Result<Option<(u8, u32)>, NoMemory> {
-    let checked = checked(alloc)?;
-    Ok(refusal_of(alloc, &checked, text))
-}
-
-/// Whether a policy is refused so; without a rule and a place it isn't refused.
-fn answers(alloc: Global, text: &str, wanted: Option<(u8, u32)>) -> Result<bool, NoMemory> {
-    Ok(refusal(alloc, text)? == wanted)
-}
-
 #[test]
 fn wrong_policies_are_refused(rt: HostRuntime) -> Result<(), Fail> {
     for case in &REFUSED {
-        assert!(rt; answers(rt.alloc(), case.text, Some((case.rule, case.at)))?);
+        assert!(rt; answers(rt.alloc(), case.text, Outcome::Fails(case.rule, case.at))?);
     }
     Ok(())
 }
 
-/// The same of the policy that redacts a parameter of `kinds` with a number.
+/// Whether a policy is answered so that redacts a parameter of `kinds` with a number.
 fn number_answers(
     alloc: Global,
     field: &str,
     with: &str,
-    wanted: Option<(u8, u32)>,
+    wanted: Outcome,
 ) -> Result<bool, NoMemory> {
     let text = with_number(alloc, field, with)?;
     answers(alloc, &text, wanted)
@@ -329,10 +308,10 @@ fn number_answers(
 /// Whether the numbers at the ends of a parameter's type are read, and those past them refused.
 fn ends_there(alloc: Global, case: &Ends) -> Result<bool, NoMemory> {
     Ok(
-        number_answers(alloc, case.field, case.least, None)?
-            && number_answers(alloc, case.field, case.greatest, None)?
-            && number_answers(alloc, case.field, case.below, Some((case.first, 1)))?
-            && number_answers(alloc, case.field, case.above, Some((case.last, 1)))?,
+        number_answers(alloc, case.field, case.least, Outcome::Rules(1))?
+            && number_answers(alloc, case.field, case.greatest, Outcome::Rules(1))?
+            && number_answers(alloc, case.field, case.below, Outcome::Fails(case.first, 1))?
+            && number_answers(alloc, case.field, case.above, Outcome::Fails(case.last, 1))?,
     )
 }
 
@@ -373,19 +352,14 @@ fn is_redacting(law: &Law, reply: bool, places: &[u32]) -> bool {
     }
 }
 
-fn redacting(alloc: Global, checked: &Checked, text: &str, reply: bool, places: &[u32]) -> bool {
-    match read_policy(alloc, text.as_bytes(), checked) {
-        Ok(law) => is_redacting(&law, reply, places),
-        Err(_) => false,
-    }
-}
-
 /// Whether the policy of a path is read, and redacts these places.
 fn leads(alloc: Global, field: &str, reply: bool, places: &[u32]) -> Result<bool, NoMemory> {
     let on = if reply { "reply" } else { "request" };
     let text = with_path(alloc, on, field)?;
-    let checked = checked(alloc)?;
-    Ok(redacting(alloc, &checked, &text, reply, places))
+    match read(alloc, &text)? {
+        Ok(law) => Ok(is_redacting(&law, reply, places)),
+        Err(_) => Ok(false),
+    }
 }
 
 #[test]
