@@ -1,3 +1,4 @@
 pub mod Lines
 pub mod Settings
+pub mod Views
 pub mod Words
