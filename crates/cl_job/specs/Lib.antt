@@ -1,5 +1,10 @@
 pub mod Answer
+pub mod CheckAnswer
+pub mod Expected
+pub mod Listing
 pub mod Reports
+pub mod RunAnswer
 pub mod Seen
 pub mod Sinks
 pub mod Texts
+pub mod Verdict

@@ -6,7 +6,9 @@ use Rattle.cl_run.specs.FormMeaning.{mean}
 use Rattle.cl_rules.specs.declared.rule.Refusal.{Refusal}
 use Rattle.cl_job.specs.declared.status.Status.{Status}
 use Rattle.cl_job.specs.declared.status.Status.TheVariants as status
-use Rattle.cl_job.specs.Answer.{FilesHold, WasGiven, journal_of, report_text, status_of}
+use Rattle.cl_job.specs.Answer.{FilesHold, WasGiven}
+use Rattle.cl_job.specs.Listing.{listing}
+use Rattle.cl_job.specs.RunAnswer.{journal_of, report_text, status_of}
 use Rattle.cl_job.specs.Seen.{Seen}
 use Rattle.cl_job.specs.Sinks.{Grew}
 use Rattle.cl_job.specs.Texts.{refusal_text}
@@ -72,3 +74,10 @@ Reports checked journal status.Trapped before after = Reported checked journal s
 Reports checked journal status.WriteFault before after = Unit {0}
 Reports checked journal status.NoMemory before after = Unit {0}
 Reports checked journal _ before after = ⊥
+
+-- the listing of an accepted source, unless the put failed or memory ran out
+abbrev pub Lists : Checked → Status → Seen → Seen → Type 0
+Lists checked status.Done before after = Grew (listing checked) before.out after.out
+Lists checked status.WriteFault before after = Unit {0}
+Lists checked status.NoMemory before after = Unit {0}
+Lists checked _ before after = ⊥

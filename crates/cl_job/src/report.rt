@@ -2,7 +2,7 @@
 
 ghost use Rattle.std.specs.Prelude.{◌≡◌, ◌++◌, OnOk, IsErrOf, IsErr, map, codes};
 ghost use Rattle.cl_base.specs.Outside.{Counts};
-ghost use Rattle.cl_job.specs.Answer.{level_text, levels_text};
+ghost use Rattle.cl_job.specs.RunAnswer.{level_text, levels_text};
 ghost use Rattle.cl_job.specs.Sinks.{Grew};
 ghost use Rattle.cl_job.specs.Texts.{last_text};
 
@@ -45,7 +45,7 @@ impl From<Failed> for ReportStop {
 }
 
 /// Puts one piece.
-fn put<O: Sink>(out: &mut O, piece: &[u8]) -> Result<(), Failed>
+pub(crate) fn put<O: Sink>(out: &mut O, piece: &[u8]) -> Result<(), Failed>
     ensures counts { Counts (IsErr result) (O.fault_count out.old) (O.fault_count out.new) }
     ensures wrote { OnOk result (Grew piece.now (O.written out.old) (O.written out.new)) }
 {
@@ -53,7 +53,7 @@ fn put<O: Sink>(out: &mut O, piece: &[u8]) -> Result<(), Failed>
 }
 
 /// Puts what one level wrote: a line before it, and its bytes with a newline behind them.
-#[tactic(auto, using(crate::proofs::Growth::growth), unfolding(crate::specs::Answer::level_text))]
+#[tactic(auto, using(crate::proofs::Growth::growth), unfolding(crate::specs::RunAnswer::level_text))]
 fn put_level<O: Sink>(
     alloc: Global,
     out: &mut O,

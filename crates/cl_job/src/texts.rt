@@ -61,7 +61,7 @@ pub fn level_head(alloc: Global, name: &str, length: usize) -> Result<String, Al
 
 /// The name of a level by its number, or none.
 #[tactic(auto, unfolding(crate::specs::Texts::name_at))]
-fn name_at(names: &[Name], level: u32) -> &str
+pub(crate) fn name_at(names: &[Name], level: u32) -> &str
     ensures { result.now ≡ name_at names.now level }
 {
     match names.get(level as usize) {

@@ -1,5 +1,5 @@
 -- The report of a run that is over is the meaning's.
-use Rattle.cl_job.proofs.Answers.{put_whole}
+use Rattle.cl_job.proofs.RunAnswers.{put_whole}
 use Rattle.cl_job.proofs.job.Job.put_finished.Goals as goal
 
 pub returns-in-Ok-clause-puts : goal.returns-in-Ok-clause-puts

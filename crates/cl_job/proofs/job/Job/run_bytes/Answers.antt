@@ -1,7 +1,7 @@
 -- No reading was found, so there is none.
 use Rattle.std.proofs.Common.{refl, inr}
-use Rattle.cl_job.specs.Answer.{HasNoReading}
-use Rattle.cl_job.proofs.Answers.{refused, no_reading}
+use Rattle.cl_job.specs.RunAnswer.{HasNoReading}
+use Rattle.cl_job.proofs.RunAnswers.{refused, no_reading}
 use Rattle.cl_job.proofs.job.Job.run_bytes.Goals as goal
 
 pub returns-in-Err-NoReading-clause-answered : goal.returns-in-Err-NoReading-clause-answered

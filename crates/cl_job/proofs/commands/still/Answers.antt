@@ -1,6 +1,6 @@
--- Words without a reading are answered by the usage text.
-use Rattle.cl_job.proofs.Answers.{usage_answered}
-use Rattle.cl_job.proofs.job.closure.Goals as goal
+-- Words without a reading, and those of a run, are answered by the usage text.
+use Rattle.cl_job.proofs.Asked.{usage_answered}
+use Rattle.cl_job.proofs.commands.still.Goals as goal
 
 pub returns-in-None-clause-answered : goal.returns-in-None-clause-answered
 returns-in-None-clause-answered g c =
