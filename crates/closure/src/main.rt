@@ -3,7 +3,7 @@
 
 ghost use Rattle.std.specs.Prelude.{◌≡◌, ◌↔◌, ◌≤◌, map, string_bytes, None};
 ghost use Rattle.cl_base.specs.declared.limits.TheConstants.{SOURCE_BYTES};
-ghost use Rattle.cl_words.specs.Words.{run_asked};
+ghost use Rattle.cl_words.specs.Words.{asked};
 
 mod arguments;
 mod fitted;
@@ -12,7 +12,8 @@ mod large_stack;
 use arguments::{ArgumentStop, words};
 use cl_base::host::{HostFiles, HostSink, Streams};
 use cl_base::limits::SOURCE_BYTES;
-use cl_job::job::{Job, closure};
+use cl_job::commands::closure;
+use cl_job::job::Job;
 use cl_job::status::Status;
 use cl_words::words::read_words;
 use fitted::{Fitted, SMALL_ROOM, stack_bytes};
@@ -28,10 +29,10 @@ use std::thread::Threads;
 fn room_for(rt: &impl Files, words: &[String]) -> usize
     ensures { result ≤ SOURCE_BYTES }
 {
-    let Some(run) = read_words(words) else {
+    let Some(command) = read_words(words) else {
         return SMALL_ROOM;
     };
-    match fs::metadata(rt, run.source) {
+    match fs::metadata(rt, command.source()) {
         Ok(file) if file.is_file() => {
             let length = file.len().min(SOURCE_BYTES as u64) as usize;
             length.max(SMALL_ROOM)
@@ -44,7 +45,7 @@ fn room_for(rt: &impl Files, words: &[String]) -> usize
 /// Carries out the command over the files and the streams of the system, on a stack with room for a source of so many
 /// bytes.
 fn answer(rt: &(impl Files + Streams + Alloc<A = Global>), words: &[String], room: usize) -> Status
-    ensures usage { (result ≡ Status.Usage) ↔ (run_asked (map string_bytes words.now) ≡ None) }
+    ensures usage { (result ≡ Status.Usage) ↔ (asked (map string_bytes words.now) ≡ None) }
 {
     let mut job = Job {
         alloc: rt.alloc(),
@@ -57,7 +58,7 @@ fn answer(rt: &(impl Files + Streams + Alloc<A = Global>), words: &[String], roo
 
 /// As `answer`, with the stack that the source needs, or the one that is there.
 fn answer_deep(threads: &impl Threads, rt: HostRuntime, words: &'static [String]) -> Status
-    ensures usage { (result ≡ Status.Usage) ↔ (run_asked (map string_bytes words.now) ≡ None) }
+    ensures usage { (result ≡ Status.Usage) ↔ (asked (map string_bytes words.now) ≡ None) }
 {
     let room = room_for(&rt, words);
     on_large_stack(

@@ -2,12 +2,14 @@
 
 mod faults;
 mod journals;
+mod others;
 mod sources;
 mod words;
 
 use cl_base::memory::{MemFiles, MemSink};
 use cl_base::outside::Files;
-use cl_job::job::{Job, closure};
+use cl_job::commands::closure;
+use cl_job::job::Job;
 use cl_job::status::Status;
 use std::alloc::Global;
 use std::process::Abort;
@@ -155,7 +157,7 @@ fn check(rt: &impl Abort, alloc: Global, case: &Case<'_>) -> Result<(), Fail> {
     Ok(())
 }
 
-/// How a run ended, and what it wrote.
+/// How a command ended, and what it wrote.
 #[derive(Drop)]
 struct Ran {
     status: Status,
@@ -163,9 +165,9 @@ struct Ran {
     err: MemSink,
 }
 
-/// Runs a source where nothing fails.
-fn run(alloc: Global, source: &str) -> Result<Ran, Fail> {
-    let words = split(alloc, "run a.c")?;
+/// Carries out a command over a source where nothing fails.
+fn run(alloc: Global, line: &str, source: &str) -> Result<Ran, Fail> {
+    let words = split(alloc, line)?;
     let mut files = MemFiles::new(alloc)?;
     files.add("a.c", source.as_bytes())?;
     let out = MemSink::new(alloc, 10_000)?;

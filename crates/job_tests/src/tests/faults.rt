@@ -7,7 +7,20 @@ use std::test::Fail;
 const CANNOT_WRITE: &str = "closure: cannot write standard output\n";
 
 /// Commands of which a call fails.
-const FAULTS: [Case<'static>; 6] = [
+const FAULTS: [Case<'static>; 8] = [
+    Case {
+        line: "check nofile",
+        err: "closure: cannot read nofile\n",
+        status: Status::ReadFault,
+        ..PLAIN
+    },
+    Case {
+        line: "check a.c",
+        files_fail: 1,
+        err: "closure: cannot read a.c\n",
+        status: Status::ReadFault,
+        ..PLAIN
+    },
     Case {
         line: "run nofile",
         err: "closure: cannot read nofile\n",

@@ -113,7 +113,7 @@ fn statements(alloc: Global) -> Result<String, Fail> {
 #[test]
 fn the_frame_budget_ends(rt: HostRuntime) -> Result<(), Fail> {
     let source = statements(rt.alloc())?;
-    let ran = run(rt.alloc(), source.as_str())?;
+    let ran = run(rt.alloc(), "run a.c", source.as_str())?;
     assert_eq!(rt; ran.status, Status::Trapped);
     let first = b"level purple 1553 bytes\nA".as_slice();
     let last =

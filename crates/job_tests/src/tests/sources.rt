@@ -136,15 +136,16 @@ fn longest(alloc: Global) -> Result<String, Fail> {
     Ok(source)
 }
 
-/// Whether a source gives these at standard output and standard error, and how it ends.
+/// Whether a command over a source gives these at standard output and standard error, and how it ends.
 fn gives(
     alloc: Global,
+    line: &str,
     source: &str,
     status: Status,
     out: &[u8],
     err: &[u8],
 ) -> Result<bool, Fail> {
-    let ran = run(alloc, source)?;
+    let ran = run(alloc, line, source)?;
     Ok(ran.status == status && ran.out.bytes() == out && ran.err.bytes() == err)
 }
 
@@ -153,9 +154,37 @@ fn gives(
 fn a_source_has_a_limit(rt: HostRuntime) -> Result<(), Fail> {
     let mut source = longest(rt.alloc())?;
     let out = b"level purple 1 bytes\nH\nframes 0\nend exit 0\n";
-    assert!(rt; gives(rt.alloc(), source.as_str(), Status::Done, out, b"")?);
+    assert!(rt;
+        gives(
+            rt.alloc(),
+            "run a.c",
+            source.as_str(),
+            Status::Done,
+            out,
+            b""
+        )?
+    );
     source.push('\n')?;
     let err = b"closure: E01 at 1: source too long\n";
-    assert!(rt; gives(rt.alloc(), source.as_str(), Status::Refused, b"", err)?);
+    assert!(rt;
+        gives(
+            rt.alloc(),
+            "run a.c",
+            source.as_str(),
+            Status::Refused,
+            b"",
+            err
+        )?
+    );
+    assert!(rt;
+        gives(
+            rt.alloc(),
+            "check a.c",
+            source.as_str(),
+            Status::Refused,
+            b"",
+            err
+        )?
+    );
     Ok(())
 }

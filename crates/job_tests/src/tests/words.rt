@@ -1,14 +1,14 @@
-//! Words that have no reading, and words that ask for a run.
+//! Words that have no reading, and words that ask for a check or a run.
 
 use super::{Case, PLAIN, check};
 use cl_job::status::Status;
 use std::test::Fail;
 
-const USAGE: &str =
+pub const USAGE: &str =
     "closure: usage: check SRC | divide SRC DIR | run [options] SRC [LEVEL=FILE ...] | drill N\n";
 
 /// Words that have no reading.
-const OTHER_WORDS: [&str; 36] = [
+const OTHER_WORDS: [&str; 43] = [
     "",
     "run",
     "run ",
@@ -18,7 +18,14 @@ const OTHER_WORDS: [&str; 36] = [
     "run a.c b.c",
     "run a.c purple=b",
     "Run a.c",
-    "check a.c",
+    "check",
+    "check ",
+    "check -",
+    "check -- a.c",
+    "check a.c a.c",
+    "check --journal j a.c",
+    "check --journal=j a.c",
+    "Check a.c",
     "divide a.c d",
     "drill 3",
     "run a.c --journal j",
@@ -63,7 +70,8 @@ fn other_words_are_usage(rt: HostRuntime) -> Result<(), Fail> {
 }
 
 /// Words, and what is told of them.
-const WITH_EQUALS_SIGN: [(&str, &str); 3] = [
+const WITH_EQUALS_SIGN: [(&str, &str); 4] = [
+    ("check a=b", "closure: cannot read a=b\n"),
     ("run a=b", "closure: cannot read a=b\n"),
     ("run --journal=a=b c", "closure: cannot read c\n"),
     ("run --journal a=b c=d", "closure: cannot read c=d\n"),
