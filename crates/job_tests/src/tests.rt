@@ -1,5 +1,6 @@
 //! Commands in tables. The sources' outputs come from C11, and the journals are written out from the form of frames.
 
+mod checks;
 mod faults;
 mod journals;
 mod others;
