@@ -37,27 +37,9 @@ usage_answered told None s before after none is given rest = record {
 usage_answered told (Some x) s before after none is given rest = cc
 
 -- what isn't a run stays
-pub none_stays : (asked : Option Asked) → asked ≡ None → but_run asked ≡ asked
-none_stays None is = refl
-none_stays (Some x) is = cc
-
-pub check_stays : (asked : Option Asked) (path : List ℕ) → asked ≡ Some (Check path) → but_run asked ≡ asked
-check_stays asked path is = subst (λ (x : Option Asked). but_run x ≡ x) (sym is) refl
-
 pub alike : (asked : Option Asked) → but_run asked ≢ None → but_run asked ≡ asked
 alike None some = refl
 alike (Some (Check path)) some = refl
 alike (Some (Run run)) some = absurd (some refl)
-
--- a run doesn't
-pub run_goes : (asked : Option Asked) (run : RunAsked) → asked ≡ Some (Run run) → but_run asked ≡ None
-run_goes asked run is = subst (λ (x : Option Asked). but_run x ≡ None) (sym is) refl
-
-pub check_asked : (asked : Option Asked) (path : List ℕ) → asked ≡ Some (Check path) → but_run asked ≡ Some (Check path)
-check_asked asked path is = subst (λ (x : Option Asked). but_run x ≡ Some (Check path)) (sym is) refl
-
--- usage where it is usage to what is the same
-pub usage_as : (asked same : Option Asked) (s : Status) → same ≡ asked → (s ≡ status.Usage) ↔ (same ≡ None) → (s ≡ status.Usage) ↔ (asked ≡ None)
-usage_as asked same s is h = subst (λ (x : Option Asked). (s ≡ status.Usage) ↔ (x ≡ None)) is h
 
 pub ruleset commands = (check_expected, run_expected, usage_answered, none_written)
