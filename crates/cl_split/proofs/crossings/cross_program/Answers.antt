@@ -1,4 +1,4 @@
-use Rattle.std.proofs.Common.{sym, subst}
+use Rattle.std.proofs.Common.{Ok, subst}
 use Rattle.cl_split.specs.Answer.{levelled, RowsAnswer}
 use Rattle.cl_split.specs.Crossed.{program_of}
 use Rattle.cl_split.proofs.Refused.{handed, entries_failed, directions_failed, levels_failed, loans_failed, payloads_failed, all_hold}
@@ -36,5 +36,5 @@ returns-in_err-look_payloads c =
 
 pub returns : goal.returns
 returns c =
-    subst (λ l. RowsAnswer l _) c.in_ok-crossed.ensures.program
+    subst (λ l. RowsAnswer l (Ok c.in_ok-rows.rows)) c.in_ok-crossed.ensures.program
     (all_hold (program_of c.in_ok-crossed.crossed) c.in_ok-look_entries.ensures c.in_ok-look_directions.ensures c.in_ok-look_levels.ensures c.in_ok-look_loans.ensures c.in_ok-look_payloads.ensures c.in_ok-rows.rows c.in_ok-rows.ensures)
