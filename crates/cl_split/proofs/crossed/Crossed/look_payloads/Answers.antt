@@ -8,8 +8,8 @@ use Rattle.cl_split.proofs.Laws.{few_functions}
 use Rattle.cl_split.proofs.Refused.{rule_answer, found_answers}
 use Rattle.cl_split.proofs.crossed.Crossed.look_payloads.Goals as goal
 
-pub too_wide-found-requires-clause-callees : goal.too_wide-found-requires-clause-callees
-too_wide-found-requires-clause-callees c = callees_small (program_of c.args.self.now) c.as_slice.result.now (few_functions c.args.self.now.typed.now c.requires.typed) (c.as_slice.ensures.value ∙ c.requires.crossings)
+pub too_wide-found-requires : goal.too_wide-found-requires
+too_wide-found-requires c = record { callees = callees_small (program_of c.args.self.now) c.as_slice.result.now (few_functions c.args.self.now.typed.now c.requires.typed) (c.as_slice.ensures.value ∙ c.requires.crossings) }
 
 pub returns : goal.returns
 returns c =
