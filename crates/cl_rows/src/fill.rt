@@ -141,7 +141,7 @@ struct Copied {
     result: CType,
 }
 
-fn copied(alloc: Global, label: &LabelFact, signature: &Signature<'_>) -> Result<Copied, NoMemory>
+fn copy_all(alloc: Global, label: &LabelFact, signature: &Signature<'_>) -> Result<Copied, NoMemory>
     ensures name { IfOk result (λ d. d.name ≡ signature.now.name.now) }
     ensures label { IfOk result (λ d. d.label ≡ label.now.name) }
     ensures args { IfOk result (λ d. d.args ≡ crossing.args_of signature.now.params.now) }
@@ -181,7 +181,7 @@ pub fn row_of(
     let signature = defined_at(sources.typed, f as usize);
     let request = request_of(sources.bytes, sources.typed, f as usize);
     let reply = reply_of(sources.bytes, sources.typed, f as usize);
-    let copied = copied(alloc, label, &signature)?;
+    let copied = copy_all(alloc, label, &signature)?;
     Ok(GedlRow {
         from,
         to,
