@@ -36,14 +36,6 @@ map_next of [] i d l = absurd (omega arith)
 map_next of (y ∷ ys) zero d l = refl
 map_next of (y ∷ ys) (suc i) d l = ap (λ zs. of y ∷ zs) (map_next of ys i d (omega arith))
 
-one_marked : (n : ℕ) (marks : List Bool) → marks ≡ replicate n false → AreMarks [] marks
-none_marked n marks e k = (λ h. absurd (no_mark n k (subst (λ bs. slice_index_or bs k false ≡ true) e h)), λ c. absurd (in_none k c))
-
-take_next : (xs : List ℕ) (i d : ℕ) → i < length xs → take (suc i) xs ≡ take i xs ++ slice_index_or xs i d ∷ []
-take_next [] i d l = absurd (omega arith)
-take_next (y ∷ ys) zero d l = refl
-take_next (y ∷ ys) (suc i) d l = ap (λ zs. y ∷ zs) (take_next ys i d (omega arith))
-
 one_marked : (seen : List ℕ) (x : ℕ) (marks : List Bool) → x < length marks → AreMarks seen marks → AreMarks (seen ++ x ∷ []) (slice_set marks x true)
 one_marked seen x marks within are k = by (cases_eq k x)
   where
@@ -71,6 +63,13 @@ all_marked of cs i count marks past before = subst (λ ds. AreMarks (map of ds) 
 
 -- ---- who is called
 
+any_there : (f : ℕ) (cs : List Call) → list_any (λ c. c.callee == f) cs ≡ true → Contains (map (λ c. c.callee) cs) f
+any_there f [] h = absurd (false≢true h)
+any_there f (c ∷ cs) h =
+    ⊎_elim (λ (e : c.callee ≡ f). subst (λ (n : ℕ). Contains (c.callee ∷ map (λ c. c.callee) cs) n) e (at_head c.callee (map (λ c. c.callee) cs)))
+    (λ (o : c.callee ≡ f → ⊥). in_tail c.callee f (map (λ c. c.callee) cs) (any_there f cs (subst (λ (b : Bool). (b || list_any (λ c. c.callee == f) cs) ≡ true) (ne_eqb c.callee f o) h)))
+    (cases_eq c.callee f)
+
 module _ (cs : List Call) where
   any_is : (f : ℕ) → Contains (map (λ c. c.callee) cs) f → list_any (λ c. c.callee == f) cs ≡ true
   any_is f h = go cs h
@@ -81,15 +80,7 @@ module _ (cs : List Call) where
           (λ (r : Contains (map (λ c. c.callee) cs) f). rw (go cs r) (or-true (c.callee == f))) (head_or_tail c.callee f (map (λ c. c.callee) cs) h)
 
   is_any : (f : ℕ) → list_any (λ c. c.callee == f) cs ≡ true → Contains (map (λ c. c.callee) cs) f
-  is_any f h = go cs h
-    where
-      go : (cs : List Call) → list_any (λ c. c.callee == f) cs ≡ true → Contains (map (λ c. c.callee) cs) f
-      go [] h = absurd (false≢true h)
-      go (c ∷ cs) h = by (cases_eq c.callee f) h
-        where
-          by : (c.callee ≡ f) ⊎ (c.callee ≡ f → ⊥) → ((c.callee == f) || list_any (λ c. c.callee == f) cs) ≡ true → Contains (c.callee ∷ map (λ c. c.callee) cs) f
-          by (inl e) g = subst (λ (n : ℕ). Contains (c.callee ∷ map (λ c. c.callee) cs) n) e (at_head c.callee (map (λ c. c.callee) cs))
-          by (inr other) g = in_tail c.callee f (map (λ c. c.callee) cs) (go cs (subst (λ (b : Bool). (b || list_any (λ c. c.callee == f) cs) ≡ true) (ne_eqb c.callee f other) g))
+  is_any f h = any_there f cs h
 
   pub called_is : (called : List Bool) (f : ℕ) → AreMarks (map (λ c. c.callee) cs) called → slice_index_or called f false ≡ list_any (λ c. c.callee == f) cs
   called_is called f are = by (slice_index_or called f false) (list_any (λ c. c.callee == f) cs) (λ h. any_is f ((are f).0 h)) (λ h. (are f).1 (is_any f h))

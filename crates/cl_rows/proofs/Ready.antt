@@ -112,8 +112,8 @@ is_defined typed f types within none =
     let fact : FnFact = slice_index_or typed.functions f no_fact in
     let one : OneOf (functions_of typed.program) (slice_index_or typed.functions f no_fact) = subst (λ fs. OneOf fs (slice_index_or typed.functions f no_fact)) types.functions (one_at typed.functions f no_fact within) in
     let there : FactOfProgram typed.program (slice_index_or typed.functions f no_fact) = facts_are typed.program (slice_index_or typed.functions f no_fact) one in
-    defines (slice_index_or typed.functions f no_fact) there.0 there.1.1
-    (ap defined_by (sym (item_at typed.program.items (slice_index_or typed.functions f no_fact).item there.0 no_item there.1.0)) ∙ none)
+    defines (slice_index_or typed.functions f no_fact) there.0 there.2
+    (ap defined_by (sym (item_at typed.program.items (slice_index_or typed.functions f no_fact).item there.0 no_item there.1)) ∙ none)
 
 -- ---- its payloads aren't wide
 
@@ -143,7 +143,7 @@ narrow_both : (typed : Typed) (cs : List Call) (c : Call) → c.callee < length 
 unfolding too_wide_in
 narrow_both typed cs c within h there =
     let both = parts (nat_le (size_in (structs_of typed.program.items) (signatures_in typed c.callee) false) 4096) (nat_le (size_in (structs_of typed.program.items) (signatures_in typed c.callee) true) 4096)
-    (list_any (λ d. d.callee == c.callee) cs) (any_called cs c there) (no_place typed cs typed.functions 0 c.callee c.callee refl within h) in
+    (list_any (λ d. d.callee == c.callee) cs) (any_called cs c there) (no_place typed cs typed.functions 0 c.callee c.callee (omega arith) within h) in
     (leb-true (size_in (structs_of typed.program.items) (signatures_in typed c.callee) false) 4096 both.0, leb-true (size_in (structs_of typed.program.items) (signatures_in typed c.callee) true) 4096 both.1)
 
 pub ready : (typed : Typed) (labels : LabelTable) (levels : Levels) (cs : List Call) → IsTyped typed.program typed → All (λ c. c.callee < length typed.functions) cs

@@ -21,12 +21,15 @@ use Rattle.cl_rows.specs.Capped.{most, capped}
 use Rattle.cl_rows.proofs.Caps.{capped_product}
 use Rattle.cl_rows.specs.Bytes.{bytes_of, array_bytes, declared_bytes, arrays_bytes, members_bytes, AreKnown, AreNoted}
 
+zero_more : (n : ℕ) → n ≡ 0 + n
+zero_more n = omega arith
+
 size_both : (a b : List IntKind) → total_size (a ++ b) ≡ total_size a + total_size b
-size_both [] b = refl
+size_both [] b = zero_more (total_size b)
 size_both (k ∷ ks) b = let h = size_both ks b in omega arith
 
 size_times : (n : ℕ) (ks : List IntKind) → total_size (times n ks) ≡ n * total_size ks
-size_times zero ks = refl
+size_times zero ks = omega arith
 size_times (suc n) ks = size_both ks (times n ks) ∙ ap (λ (m : ℕ). total_size ks + m) (size_times n ks) ∙ grind arith
 
 pub product_is : (e : Shape) (n : ℕ) → capped (capped n * capped (total_size (kinds_of e))) ≡ capped (total_size (times n (kinds_of e)))
@@ -44,7 +47,7 @@ declared_is structs (d ∷ ds) =
 
 more_declared : (structs : Structs) (a b : List Declarator) → declared_bytes structs (a ++ b) ≡ declared_bytes structs a + declared_bytes structs b
 unfolding declared_bytes
-more_declared structs [] b = refl
+more_declared structs [] b = zero_more (declared_bytes structs b)
 more_declared structs (d ∷ ds) b = let h = more_declared structs ds b in omega arith
 
 pub members_is : (structs : Structs) (ms : List Declaration) → members_bytes structs ms ≡ total_size (member_kinds (members_of structs (flat_map (λ d. d.names) ms)))
@@ -68,9 +71,9 @@ arrays_are structs k (d ∷ ds) = by (shape_of structs d.ctype) refl (arrays_are
   where
     by : (s : Shape) → shape_of structs d.ctype ≡ s → total_size (member_kinds (array_members (parameters_of structs None (suc k) ds))) ≡ arrays_bytes structs ds
         → total_size (member_kinds (array_members (parameters_of structs None k (d ∷ ds)))) ≡ array_bytes (shape_of structs d.ctype) + arrays_bytes structs ds
-    by nothing e rest = rw e rest
-    by (integer kind) e rest = rw e rest
-    by (struct ms) e rest = rw e rest
+    by nothing e rest = rw e (rest ∙ zero_more (arrays_bytes structs ds))
+    by (integer kind) e rest = rw e (rest ∙ zero_more (arrays_bytes structs ds))
+    by (struct ms) e rest = rw e (rest ∙ zero_more (arrays_bytes structs ds))
     by (array element size) e rest =
         rw e (size_both (kinds_of (array element size)) (member_kinds (array_members (parameters_of structs None (suc k) ds))) ∙ ap (λ (n : ℕ). bytes_of (array element size) + n) rest)
 
@@ -154,9 +157,10 @@ take_next [] i d l = absurd (omega arith)
 take_next (y ∷ ys) zero d l = refl
 take_next (y ∷ ys) (suc i) d l = ap (λ zs. y ∷ zs) (take_next ys i d (omega arith))
 
-pub one_item : (items : List Item) (i : ℕ) (d : Item) (known : Latest) → i < length items
-    → AreKnown (with_struct (structs_of (take i items)) (slice_index_or items i d)) known → AreKnown (structs_of (take (i + 1) items)) known
+pub next_item : (items : List Item) (i : ℕ) (x : Item) (before : List Item) (known : Latest) → i < length items → x ≡ slice_index_or items i x → before ≡ take i items
+    → AreKnown (with_struct (structs_of before) x) known → AreKnown (structs_of (take (i + 1) items)) known
 unfolding structs_of
-one_item items i d known l is =
+next_item items i x before known l at same is =
     rw (add-one i) (subst (λ structs. AreKnown structs known)
-    (sym (ap (fold with_struct []) (take_next items i d l) ∙ fold-append with_struct [] (take i items) (slice_index_or items i d ∷ []))) is)
+    (sym (ap (fold with_struct []) (take_next items i x l ∙ ap (λ y. take i items ++ y ∷ []) (sym at)) ∙ fold-append with_struct [] (take i items) (x ∷ [])))
+    (subst (λ xs. AreKnown (with_struct (fold with_struct [] xs) x) known) same is))

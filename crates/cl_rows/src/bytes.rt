@@ -1,6 +1,6 @@
 //! How many bytes types take in a payload.
 
-ghost use Rattle.std.specs.Prelude.{◌≡◌, ◌≤◌, ◌+◌, ◌*◌, OnOk, IfOk};
+ghost use Rattle.std.specs.Prelude.{◌≡◌, ◌≤◌, ◌+◌, ◌*◌, [], OnOk, IfOk, length, take};
 ghost use Rattle.cl_mean.specs.Shape as shape;
 ghost use Rattle.cl_mean.specs.Shape.{Shape, shape_of, struct_known, with_struct, structs_of};
 ghost use Rattle.cl_tree.specs.Words.{entry};
@@ -62,6 +62,14 @@ fn elements(n: u64, size: u64) -> u64
     ensures { (e : Shape) → size ≡ capped (bytes_of e) → result ≡ capped (bytes_of (shape.array e n)) }
 {
     product(n, size)
+}
+
+/// The first items.
+fn front(items: &[Item], i: usize) -> &[Item]
+    requires { i ≤ length items.now }
+    ensures { result.now ≡ take i items.now }
+{
+    &items[..i]
 }
 
 impl<'a> Bytes<'a> {
@@ -180,18 +188,26 @@ impl<'a> Bytes<'a> {
         }
     }
 
+    #[tactic(auto, using(crate::proofs::Sums::noted_none))]
+    fn none(alloc: Global, items: &'a [Item]) -> Bytes<'a>
+        ensures items { result.items.now ≡ take 0 items.now }
+        ensures known { AreKnown (structs_of []) result.known }
+    {
+        Bytes {
+            items: front(items, 0),
+            known: Latest::new(alloc),
+        }
+    }
+
     /// The structs of a program, with their bytes.
     pub fn of_items(alloc: Global, items: &'a [Item]) -> Result<Bytes<'a>, NoMemory>
         ensures items { IfOk result (λ b. b.items.now ≡ items.now) }
         ensures known { IfOk result (λ b. IsKnown b) }
     {
-        let mut all = Bytes {
-            items: &items[..0],
-            known: Latest::new(alloc),
-        };
+        let mut all = Bytes::none(alloc, items);
         for (i, item) in items.iter().enumerate() {
             all.add(alloc, item)?;
-            all.items = &items[..i + 1];
+            all.items = front(items, i + 1);
         }
         Ok(all)
     }

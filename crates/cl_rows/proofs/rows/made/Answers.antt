@@ -5,11 +5,11 @@ use Rattle.cl_rows.proofs.Ordered.{put_together}
 use Rattle.cl_rows.proofs.Ready.{ready}
 use Rattle.cl_rows.proofs.rows.made.Goals as goal
 
-pub callers-callers-requires-clause-callees : goal.callers-callers-requires-clause-callees
-callers-callers-requires-clause-callees c = all_below c.args.crossings.now _ 4096 c.requires.few c.requires.callees
+pub callers-requires-clause-callees : goal.callers-requires-clause-callees
+callers-requires-clause-callees c = all_below c.args.crossings.now _ 4096 c.requires.few c.requires.callees
 
-pub rows_of-rows-requires-clause-table : goal.rows_of-rows-requires-clause-table
-rows_of-rows-requires-clause-table c = record {
+pub rows_of-requires-clause-table : goal.rows_of-requires-clause-table
+rows_of-requires-clause-table c = record {
   known = c.in_ok-bytes.ensures.known;
   items = c.in_ok-bytes.ensures.items;
   levels = c.requires.levels;
