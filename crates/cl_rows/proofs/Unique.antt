@@ -1,5 +1,5 @@
 -- A program has one list of rows.
-use Rattle.std.proofs.Common.{◌≡◌, ◌⊎◌, inl, inr, ⊎_elim, ◌<◌, ℕ, zero, suc, List, [], ◌∷◌, Bool, true, false, Option, Some, None, slice_get, refl, sym, ap, subst, ◌∙◌, arith}
+use Rattle.std.proofs.Common.{◌≡◌, ◌⊎◌, inl, inr, ⊎_elim, ◌<◌, ℕ, zero, suc, List, [], ◌∷◌, Bool, true, false, Option, Some, None, slice_get, Result, Ok, Err, IfOk, refl, sym, ap, subst, ◌∙◌, arith}
 use Rattle.std.specs.List.{Contains}
 use Rattle.std.proofs.lemmas.Option.{none-some, same_Some}
 use Rattle.cl_tree.specs.declared.tree.CType.{CType}
@@ -138,3 +138,7 @@ module _ (l : Levelled) where
     where
       all : List Word → ℕ → List GedlRow → GedlRows
       all levels main rows = record { levels = levels; main = main; rows = rows }
+
+  pub answer_only : {E : Type 0} (result : Result GedlRows E) → IfOk result (λ r. AreRows l r) → (r : GedlRows) → AreRows l r → IfOk result (λ x. x ≡ r)
+  answer_only (Ok x) is r are = only_rows x r is are
+  answer_only (Err e) is r are = is

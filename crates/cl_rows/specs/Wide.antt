@@ -1,5 +1,5 @@
 -- E30 over the signatures of functions.
-use Rattle.std.specs.Prelude.{ℕ, suc, Bool, true, false, not, ◌==◌, ◌&&◌, ◌||◌, nat_le, List, [], ◌∷◌, ◌++◌}
+use Rattle.std.specs.Prelude.{ℕ, suc, Bool, true, false, not, ◌==◌, ◌&&◌, ◌||◌, nat_le, List, [], ◌∷◌, ◌++◌, slice_index_or}
 use Rattle.std.specs.List.{list_any}
 use Rattle.cl_base.specs.declared.limits.TheConstants.{PAYLOAD_BYTES}
 use Rattle.cl_mean.specs.declared.checked.FnFact.{FnFact}
@@ -29,3 +29,9 @@ wide_in typed cs f (fact ∷ facts) = unless (not (is_place typed cs f)) fact.li
 -- the functions that these calls are of and that have a wide payload, by their names
 unfoldable pub too_wide_in : Typed → List Call → Lines
 too_wide_in typed cs = wide_in typed cs 0 typed.functions
+
+-- the same, where the functions that calls are of are marked
+unfoldable pub wide_by : Structs → Typed → List Bool → ℕ → List FnFact → Lines
+wide_by structs typed called f [] = []
+wide_by structs typed called f (fact ∷ facts) =
+    unless (not (is_wide_in structs (signatures_in typed f) && slice_index_or called f false)) fact.line ++ wide_by structs typed called (suc f) facts
