@@ -1,5 +1,5 @@
 -- Sums of bytes, by the definitions of payloads.
-use Rattle.std.proofs.Common.{◌≡◌, ℕ, zero, suc, ◌+◌, ◌*◌, ◌≤◌, List, [], ◌∷◌, ◌++◌, Bool, true, false, Option, Some, None, option_map, is_some, if◌then◌else◌, bytes_eq, codes, take, length, slice_index_or, add-one, ◌<◌, refl, sym, ap, subst, ◌∙◌, arith}
+use Rattle.std.proofs.Common.{◌≡◌, ℕ, zero, suc, ◌+◌, ◌*◌, ◌≤◌, List, [], ◌∷◌, ◌++◌, Bool, true, false, Option, Some, None, option_map, is_some, if◌then◌else◌, bytes_eq, codes, take, length, slice_index_or, add-one, ◌<◌, Result, Ok, Err, OnOk, refl, sym, ap, subst, ◌∙◌, arith}
 use Rattle.std.specs.List.{flat_map, fold}
 use Rattle.std.specs.Map.{update}
 use Rattle.std.proofs.lemmas.List.Sums.{fold-append}
@@ -19,6 +19,7 @@ use Rattle.cl_scope.specs.declared.latest.Latest.{Latest}
 use Rattle.cl_scope.specs.Table.{place_at}
 use Rattle.cl_rows.specs.Capped.{most, capped}
 use Rattle.cl_rows.proofs.Caps.{capped_product}
+use Rattle.cl_rows.specs.Wide.{size_in}
 use Rattle.cl_rows.specs.Bytes.{bytes_of, array_bytes, declared_bytes, arrays_bytes, members_bytes, AreKnown, AreNoted}
 
 zero_more : (n : ℕ) → n ≡ 0 + n
@@ -164,3 +165,22 @@ next_item items i x before known l at same is =
     rw (add-one i) (subst (λ structs. AreKnown structs known)
     (sym (ap (fold with_struct []) (take_next items i x l ∙ ap (λ y. take i items ++ y ∷ []) (sym at)) ∙ fold-append with_struct [] (take i items) (x ∷ [])))
     (subst (λ xs. AreKnown (with_struct (fold with_struct [] xs) x) known) same is))
+
+is_absent : (o : Option ℕ) → is_some o ≡ false → o ≡ None
+is_absent None h = refl
+is_absent (Some x) h = absurd (false≢true (sym h))
+
+pub noted_by : {E : Type 0} (structs : Structs) (tag : Word) (members : List Declaration) (known new : Latest) (size : ℕ) (result : Result (Unit {0}) E) → AreKnown structs known
+    → size ≡ capped (members_bytes structs members) → is_some (place_at known tag) ≡ false
+    → OnOk result ((q : Word) → place_at new q ≡ update bytes_eq (place_at known) tag (Some size) q) → OnOk result (AreNoted structs tag members new)
+noted_by structs tag members known new size (Ok x) is e none after = noted_new structs tag members known is new size e (is_absent (place_at known tag) none) after
+noted_by structs tag members known new size (Err x) is e none after = tt
+
+-- ---- by the signature of a function
+
+pub request_by : (structs : Structs) (ss : List Signature) (s : Signature) (n : ℕ) → n ≡ capped (declared_bytes structs s.params) → ss ≡ s ∷ [] → n ≡ capped (size_in structs ss false)
+request_by structs ss s n e is = e ∙ ap capped (request_is structs s ∙ sym (ap (λ (xs : List Signature). size_in structs xs false) is))
+
+pub reply_by : (structs : Structs) (ss : List Signature) (s : Signature) (n : ℕ) → n ≡ capped (bytes_of (shape_of structs s.result) + arrays_bytes structs s.params) → ss ≡ s ∷ []
+    → n ≡ capped (size_in structs ss true)
+reply_by structs ss s n e is = e ∙ ap capped (reply_is structs s ∙ sym (ap (λ (xs : List Signature). size_in structs xs true) is))

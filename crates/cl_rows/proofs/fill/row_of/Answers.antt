@@ -1,4 +1,4 @@
-use Rattle.std.proofs.Common.{sym, ap, refl}
+use Rattle.std.proofs.Common.{false, true, ap, refl}
 use Rattle.cl_mean.specs.Shape.{structs_of}
 use Rattle.cl_rows.proofs.Ready.{filled, small_in}
 use Rattle.cl_rows.proofs.fill.row_of.Goals as goal

@@ -7,4 +7,4 @@ loop-i-init c = (c.none-all.ensures.items, c.none-all.ensures.known)
 
 pub loop-i-preserved : goal.loop-i-preserved
 loop-i-preserved c =
-    (c.front.ensures, next_item c.args.items.now c.loop-i.i c.index-items-i.result c.loop-i.all.items.now c.add.new.self.known (omega arith) c.index-items-i.is c.loop-i.invariant.0 c.in_ok-add.ensures.known)
+    (c.front-all.ensures, next_item c.args.items.now c.loop-i.i c.index-items-i.result c.loop-i.all.items.now c.add.new.self.known (omega arith) c.index-items-i.is c.loop-i.invariant.0 c.in_ok-add.ensures.known)
