@@ -347,12 +347,12 @@ int main(void) { return fact(5); }
 #pragma cle def B {"level":"green","cdf":[{"remotelevel":"red","direction":"bidirectional","guarddirective":{"operation":"allow"},"argtaints":[],"codtaints":[],"rettaints":[]}]}
 #pragma cle def C {"level":"blue","cdf":[{"remotelevel":"red","direction":"bidirectional","guarddirective":{"operation":"allow"},"argtaints":[],"codtaints":[],"rettaints":[]},{"remotelevel":"green","direction":"bidirectional","guarddirective":{"operation":"allow"},"argtaints":[],"codtaints":[],"rettaints":[]}]}
 #pragma cle C
-int last(void) { return 1; }
+void last(void) { }
 #pragma cle B
-int next(void) { return last(); }
-int main(void) { return last() + next(); }
+void next(void) { last(); }
+int main(void) { last(); next(); return 0; }
 "#,
-        "0 1 next 0 4;0 2 last 0 4;1 2 last 0 4;",
+        "0 1 next 0 0;0 2 last 0 0;1 2 last 0 0;",
     ),
     // a struct by its members
     (
