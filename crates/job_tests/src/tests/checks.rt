@@ -145,7 +145,7 @@ const REFUSED: [(&str, &str, &str); 9] = [
     (LEVEL, "@", "closure: E03 at 2: no token\n"),
     (
         LEVEL,
-        "#pragma cle def Q {\n",
+        "#pragma cle def Q {\nint main(void) { return 0; }\n",
         "closure: E10 at 2: not JSON\n",
     ),
     (
