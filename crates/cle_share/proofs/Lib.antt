@@ -3,3 +3,4 @@ pub mod Firsts
 pub mod Flags
 pub mod Labels
 pub mod Looks
+pub mod Returned

@@ -1,15 +1,16 @@
 -- Declarations of functions on which pragmas put a label.
-use Rattle.std.specs.Prelude.{ℕ, suc, Bool, true, ◌==◌, ◌&&◌, List, [], ◌∷◌, ◌++◌, map, Option, Some, None, slice_index_or, if◌then◌else◌}
+use Rattle.std.specs.Prelude.{ℕ, suc, Bool, true, ◌==◌, ◌&&◌, List, [], ◌∷◌, ◌++◌, map, Option, Some, None, slice_get, slice_index_or, if◌then◌else◌}
 use Rattle.std.specs.List.{flat_map, list_all}
+use Rattle.cl_tree.specs.declared.tree.CType.{out-CType}
+use Rattle.cl_tree.specs.declared.tree.Declarator.{Declarator}
 use Rattle.cl_tree.specs.declared.tree.Program.{Program}
 use Rattle.cl_tree.specs.Words.{Word}
 use Rattle.cl_mean.specs.declared.labels.LabelFact.{LabelFact}
 use Rattle.cl_mean.specs.declared.labels.Taints.{Taints}
-use Rattle.cl_mean.specs.Source.{label_at}
 use Rattle.cl_typing.specs.Rules.{Lines, unless}
 use Rattle.cl_labelling.specs.Regions.{Subject, function, Marked, marked_of}
 use Rattle.cl_labelling.specs.Items.{label_on, label_names}
-use Rattle.cl_labelling.specs.Shareable.{all_shareable, shareable_back, lent}
+use Rattle.cl_labelling.specs.Shareable.{all_shareable, is_array, shareable_back}
 use Rattle.cle_share.specs.declared.bearings.Bearing as code
 use Rattle.cle_share.specs.Signatures.{Parts}
 
@@ -35,28 +36,40 @@ bearings bs = map (λ b. record { function = b.function.now; label = b.label; li
 
 -- ---- what is lent to the functions that have a label
 
--- What is lent to a function with this label is shareable with the levels that it has entries for.
-abbrev pub lends_by : List LabelFact → Option LabelFact → Option Parts → Bool
-lends_by labels (Some l) (Some s) = by l.taints
+-- of the taints of each argument of a label, whether they're shareable with each level that it has an entry for
+abbrev pub backs : List LabelFact → LabelFact → List Bool
+backs labels l = by l.taints
   where
-    by : Option Taints → Bool
-    by None = true
-    by (Some t) = shareable_back labels l (lent t.args s.params)
-lends_by labels _ _ = true
+    by : Option Taints → List Bool
+    by None = []
+    by (Some t) = map (λ m. shareable_back labels l m.all) t.args
+
+abbrev pub all_backs : List LabelFact → List (List Bool)
+all_backs labels = map (backs labels) labels
+
+-- whether those of all array parameters are
+unfoldable pub go_back : List Bool → List Declarator → Bool
+go_back (b ∷ bs) (d ∷ ds) = (if is_array (out-CType d.ctype) then b else true) && go_back bs ds
+go_back _ _ = true
+
+abbrev pub lends_by : Option (List Bool) → Option Parts → Bool
+lends_by (Some row) (Some s) = go_back row s.params
+lends_by _ _ = true
 
 -- how functions are declared, by their names
 abbrev pub Known : Type 0
 Known = Word → Option Parts
 
-abbrev pub lends : List LabelFact → Known → Bearing → Bool
-lends labels known b = lends_by labels (label_at labels (Some b.label)) (known b.function)
+-- What is lent to the function that is declared is shareable with the levels that its label has entries for.
+abbrev pub lends : List (List Bool) → Known → Bearing → Bool
+lends rows known b = lends_by (slice_get rows b.label) (known b.function)
 
 -- as far as it is a declaration with the label of a number
-abbrev pub lends_for : List LabelFact → Known → ℕ → Bearing → Bool
-lends_for labels known k b = if b.label == k then lends labels known b else true
+abbrev pub lends_for : List (List Bool) → Known → ℕ → Bearing → Bool
+lends_for rows known k b = if b.label == k then lends rows known b else true
 
-abbrev pub all_lend : List LabelFact → Known → ℕ → List Bearing → Bool
-all_lend labels known k bs = list_all (lends_for labels known k) bs
+abbrev pub all_lend : List (List Bool) → Known → ℕ → List Bearing → Bool
+all_lend rows known k bs = list_all (lends_for rows known k) bs
 
 -- what is noted of each label for the declarations so far
 abbrev pub flag_at : List Bool → ℕ → Bool

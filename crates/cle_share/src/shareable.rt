@@ -1,16 +1,14 @@
 //! Whether labels are shareable with levels.
 
-ghost use Rattle.std.specs.Prelude.{◌≡◌, ◌++◌, ◌||◌, ◌&&◌, ◌==◌, OnOk, IfOk, MatchOption, Some, None};
+ghost use Rattle.std.specs.Prelude.{◌≡◌, ◌||◌, ◌&&◌, ◌==◌, MatchOption, Some, None};
 ghost use Rattle.std.specs.List.{list_all, list_any};
 ghost use Rattle.cl_mean.specs.Source as source;
 ghost use Rattle.cl_labelling.specs.Shareable as share;
 ghost use Rattle.cl_tree.specs.declared.tree.CType.{out-CType};
 
-use cl_base::name::NoMemory;
 use cl_mean::labels::{Direction, Entry, LabelFact, Mention, Mentions, Operation, Taints};
-use cl_tree::tree::{CType, Declarator};
+use cl_tree::tree::CType;
 use sqlite_items::at;
-use std::alloc::Global;
 
 fn lets_out(direction: Direction) -> bool
     ensures { result ≡ share.lets_out direction }
@@ -81,7 +79,7 @@ fn all_shareable(labels: &[LabelFact], level: u32, mentions: &[Mention]) -> bool
 }
 
 /// Whether labels are shareable with each level for which a label has an entry.
-fn shareable_back(labels: &[LabelFact], label: &LabelFact, mentions: &[Mention]) -> bool
+pub fn shareable_back(labels: &[LabelFact], label: &LabelFact, mentions: &[Mention]) -> bool
     ensures { result ≡ share.shareable_back labels.now label.now mentions.now }
 {
     label
@@ -91,44 +89,13 @@ fn shareable_back(labels: &[LabelFact], label: &LabelFact, mentions: &[Mention])
         .all(|entry| all_shareable(labels, entry.remote, mentions))
 }
 
-fn is_array(ctype: &CType) -> bool
+pub fn is_array(ctype: &CType) -> bool
     ensures { result ≡ share.is_array (out-CType ctype.now) }
 {
     match ctype {
         CType::Array(_, _) => true,
         _ => false,
     }
-}
-
-/// The labels of what a function is lent: the taints of its array parameters.
-#[tactic(auto, using(crate::proofs::Labels::lent_array, crate::proofs::Labels::lent_other, crate::proofs::Labels::lent_end), unfolding(cl_labelling::specs::Shareable::lent))]
-fn lent(alloc: Global, args: &[Mentions], params: &[Declarator]) -> Result<Vec<Mention>, NoMemory>
-    ensures { IfOk result (λ found. found.items ≡ share.lent args.now params.now) }
-{
-    let mut found = Vec::new(alloc);
-    for (place, arg) in args.iter().enumerate() {
-        let Some(param) = params.get(place) else {
-            return Ok(found);
-        };
-        if is_array(&param.ctype) {
-            found.extend_from_slice(arg.all.as_slice())?;
-        }
-    }
-    Ok(found)
-}
-
-/// Whether what is lent to a function with these taints and parameters is shareable with each level that its label has an entry for.
-pub fn lends_back(
-    alloc: Global,
-    labels: &[LabelFact],
-    label: &LabelFact,
-    taints: &Taints,
-    params: &[Declarator],
-) -> Result<bool, NoMemory>
-    ensures { IfOk result (λ b. b ≡ share.shareable_back labels.now label.now (share.lent taints.now.args params.now)) }
-{
-    let lent = lent(alloc, taints.args.as_slice(), params)?;
-    Ok(shareable_back(labels, label, lent.as_slice()))
 }
 
 fn args_shareable(labels: &[LabelFact], level: u32, args: &[Mentions]) -> bool
