@@ -13,9 +13,10 @@ use Rattle.rpc_codec.specs.declared.leaves.Leaf.{Leaf}
 use Rattle.rpc_codec.specs.Leaves.{chosen_from, leaves}
 use Rattle.rpc_codec.proofs.Under.{kinds_are, places_are}
 use Rattle.guard_rules.specs.declared.draft.Field.{Field}
-use Rattle.guard_rules.specs.declared.found.Place.{Place}
+use Rattle.guard_places.specs.declared.places.Place.{Place}
 use Rattle.guard_rules.specs.Answer.{FieldAnswer, PlacesAnswer}
-use Rattle.guard_rules.specs.Places.{chosen_places, place_at, places_of}
+use Rattle.guard_places.specs.Places.{chosen_places}
+use Rattle.guard_rules.specs.Places.{place_at, places_of}
 use Rattle.guard_rules.specs.Policy.{any_there, field_fits}
 
 -- ---- the integers that are chosen are those under the path
@@ -45,29 +46,6 @@ pub places_are_those : (s : Shape) (path : List Word) (ls : List Leaf) → ls �
 places_are_those s path ls e =
     ap (chosen_places 0) e ∙ places_from (kinds_of s) [] (leaves s true path) 0 refl (sym (kinds_are s true path))
     ∙ ap (map (place_at (kinds_of s))) (places_are s path 0)
-
--- ---- collecting them
-
-chosen_more : (ls : List Leaf) (i : ℕ) (d : Leaf) → i < length ls → get_or ls i d ≡ d
-    → chosen_places i (drop i ls) ≡ (if d.chosen then place i d.kind ∷ chosen_places (i + 1) (drop (i + 1) ls) else chosen_places (i + 1) (drop (i + 1) ls))
-chosen_more ls i d h is =
-    let e : suc i ≡ i + 1 = omega arith in
-    ap (chosen_places i) (drop_more ls i d h ∙ ap (λ (l : Leaf). l ∷ drop (i + 1) ls) is)
-    ∙ ap (λ (k : ℕ). if d.chosen then place i d.kind ∷ chosen_places k (drop (i + 1) ls) else chosen_places k (drop (i + 1) ls)) e
-
-pub place_more : (ls : List Leaf) (i : ℕ) (d : Leaf) (old new whole : List Place) → i < length ls → get_or ls i d ≡ d → d.chosen ≡ true
-    → new ≡ old ++ place i d.kind ∷ [] → old ++ chosen_places i (drop i ls) ≡ whole → new ++ chosen_places (i + 1) (drop (i + 1) ls) ≡ whole
-place_more ls i d old new whole h is does added before =
-    let rest : List Place = chosen_places (i + 1) (drop (i + 1) ls) in
-    let step : chosen_places i (drop i ls) ≡ place i d.kind ∷ rest = chosen_more ls i d h is ∙ ap (λ (c : Bool). if c then place i d.kind ∷ rest else rest) does in
-    ap (λ (ps : List Place). ps ++ rest) added ∙ append_assoc old (place i d.kind ∷ []) rest ∙ ap (λ (ps : List Place). old ++ ps) (sym step) ∙ before
-
-pub place_less : (ls : List Leaf) (i : ℕ) (d : Leaf) (old new whole : List Place) → i < length ls → get_or ls i d ≡ d → d.chosen ≡ false → new ≡ old
-    → old ++ chosen_places i (drop i ls) ≡ whole → new ++ chosen_places (i + 1) (drop (i + 1) ls) ≡ whole
-place_less ls i d old new whole h is fails same before =
-    let rest : List Place = chosen_places (i + 1) (drop (i + 1) ls) in
-    let step : chosen_places i (drop i ls) ≡ rest = chosen_more ls i d h is ∙ ap (λ (c : Bool). if c then place i d.kind ∷ rest else rest) fails in
-    ap (λ (ps : List Place). ps ++ rest) same ∙ ap (λ (ps : List Place). old ++ ps) (sym step) ∙ before
 
 -- ---- fields by the integers under their paths
 

@@ -18,7 +18,7 @@ use Rattle.cl_labelling.specs.Json.{each}
 use Rattle.guard_rules.specs.declared.draft.ActDraft.{ActDraft}
 use Rattle.guard_rules.specs.declared.draft.Field.{Field}
 use Rattle.guard_rules.specs.declared.draft.RuleDraft.{RuleDraft}
-use Rattle.guard_rules.specs.declared.found.Place.{Place}
+use Rattle.guard_places.specs.declared.places.Place.{Place}
 use Rattle.guard_rules.specs.declared.policy.PolicyStop.{PolicyStop}
 use Rattle.guard_rules.specs.declared.policy.PolicyStop.TheVariants as stop
 use Rattle.guard_rules.specs.declared.redact.Redacted.{Redacted}

@@ -1,84 +1,21 @@
 //! The places under paths of payloads, kept from one field of a policy to the next.
 
-ghost use Rattle.std.specs.Prelude.{◌≡◌, true, IsTrue, IfOk, IfSome, Some};
-ghost use Rattle.rpc_codec.specs.Leaves.{leaves};
-ghost use Rattle.guard_rules.specs.Places.{chosen_places, places_of, IsRight};
+ghost use Rattle.std.specs.Prelude.{◌≡◌, IsTrue, IfOk, IfSome, Some};
+ghost use Rattle.guard_rules.specs.Places.{places_of, IsRight};
 ghost use Rattle.guard_rules.specs.Policy.{payload};
 
 use cl_base::name::{Name, NoMemory};
 use cl_mean::checked::Checked;
-use cl_tree::kinds::IntKind;
-use rpc_codec::leaves::Leaf;
-use rpc_codec::signature::leaves_of;
+use guard_places::places::Place;
+use guard_places::tables::Tables;
 use std::alloc::Global;
 use std::marker::Model;
-
-/// An integer of a payload: its place, and its kind.
-#[derive(Clone, Copy)]
-pub(crate) struct Place {
-    pub(crate) at: u32,
-    pub(crate) kind: IntKind,
-}
 
 /// The request of a function, or its reply; a rule for all functions has no payload.
 #[derive(Clone, Copy)]
 pub(crate) struct Sent {
     pub(crate) function: Option<u32>,
     pub(crate) reply: bool,
-}
-
-fn leaves_under(
-    alloc: Global,
-    checked: &Checked,
-    sent: Sent,
-    path: &[Name],
-) -> Result<Vec<Leaf>, NoMemory>
-    ensures { IfOk result (λ v. v.items ≡ leaves (payload checked.now sent.function sent.reply) true path.now) }
-{
-    match sent.function {
-        Some(function) => leaves_of(alloc, checked, function, sent.reply, path),
-        None => Ok(Vec::new(alloc)),
-    }
-}
-
-fn place_of(place: usize, leaf: Leaf) -> Result<Place, NoMemory>
-    ensures { IfOk result (λ p. p ≡ record { at = place; kind = leaf.kind }) }
-{
-    match u32::try_from(place) {
-        Ok(at) => Ok(Place {
-            at,
-            kind: leaf.kind,
-        }),
-        Err(_) => Err(NoMemory),
-    }
-}
-
-/// The integers that are chosen.
-#[tactic(auto, using(crate::proofs::Chosen::place_more, crate::proofs::Chosen::place_less))]
-fn places_in(alloc: Global, leaves: &[Leaf]) -> Result<Vec<Place>, NoMemory>
-    ensures { IfOk result (λ v. v.items ≡ chosen_places 0 leaves.now) }
-{
-    let mut places = Vec::new(alloc);
-    for (place, leaf) in leaves.iter().enumerate() {
-        if leaf.chosen {
-            places.push(place_of(place, *leaf)?)?;
-        }
-    }
-    Ok(places)
-}
-
-/// The integers under a path.
-pub(crate) fn places_under(
-    alloc: Global,
-    checked: &Checked,
-    sent: Sent,
-    path: &[Name],
-) -> Result<Vec<Place>, NoMemory>
-    ensures { IfOk result (λ v. v.items ≡ places_of (payload checked.now sent.function sent.reply) path.now) }
-{
-    let leaves = leaves_under(alloc, checked, sent, path)?;
-    let places = places_in(alloc, &leaves)?;
-    Ok(places)
 }
 
 /// What lies under a path of a payload.
@@ -137,7 +74,7 @@ fn slot_of(count: usize, sent: Sent, path: &[Name]) -> usize {
 /// looked for again. Contracts see the source.
 #[derive(Drop)]
 pub(crate) struct Paths<'a> {
-    pub(crate) checked: &'a Checked,
+    tables: Tables<'a>,
     slots: Vec<Option<Found<'a>>>,
 }
 
@@ -155,9 +92,9 @@ impl<'a> Model for Paths<'a> {
 
     ghost coded = { Prim.hlevel (codes, t.the_row.coded, e.the_row.coded, i.the_row.coded, s.the_row.coded) };
 
-    ghost view = { λ p. p.checked.now };
+    ghost view = { λ p. p.tables };
 
-    ghost invariant = { λ p. All (IsRight p.checked.now) p.slots.items };
+    ghost invariant = { λ p. All (IsRight p.tables) p.slots.items };
 }
 
 impl<'a> Paths<'a> {
@@ -173,7 +110,32 @@ impl<'a> Paths<'a> {
         for _turn in 0..count {
             slots.push(None)?;
         }
-        Ok(Paths { checked, slots })
+        let tables = Tables::new(alloc, checked)?;
+        Ok(Paths { tables, slots })
+    }
+
+    /// The source.
+    pub(crate) fn checked(&self) -> &'a Checked
+        ensures { result.now ≡ self.now }
+    {
+        self.tables.checked()
+    }
+
+    /// The integers under a path.
+    pub(crate) fn find(
+        &mut self,
+        alloc: Global,
+        sent: Sent,
+        path: &[Name],
+    ) -> Result<Vec<Place>, NoMemory>
+        ensures kept { self.new ≡ self.old }
+        ensures found { IfOk result (λ v. v.items ≡ places_of (payload self.old sent.function sent.reply) path.now) }
+    {
+        let Some(function) = sent.function else {
+            return Ok(Vec::new(alloc));
+        };
+        let places = self.tables.places_under(alloc, function, sent.reply, path)?;
+        Ok(places)
     }
 
     /// What is kept of a path.

@@ -8,10 +8,11 @@ ghost use Rattle.guard_rules.specs.Answer.{FieldAnswer, FieldsAnswer, PlacesAnsw
 ghost use Rattle.guard_rules.specs.Policy.{payload};
 
 use crate::draft::Field;
-use crate::found::{Found, Paths, Place, Sent, places_under};
+use crate::found::{Found, Paths, Sent};
 use cl_base::name::NoMemory;
 use cl_mean::law::Patch;
 use cl_tree::arithmetic::fits;
+use guard_places::places::Place;
 use sqlite_items::Items;
 use std::alloc::Global;
 
@@ -65,7 +66,7 @@ fn push_field<'a>(
         let answer = push_found(places, field.with, patches)?;
         return Ok(answer);
     }
-    let places = places_under(alloc, paths.checked, sent, path)?;
+    let places = paths.find(alloc, sent, path)?;
     let answer = push_found(places.as_slice(), field.with, patches)?;
     paths.keep(Found { sent, path, places });
     Ok(answer)

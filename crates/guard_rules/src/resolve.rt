@@ -83,7 +83,7 @@ pub(crate) fn resolve_rule<'a>(
     ensures kept { paths.new ≡ paths.old }
     ensures answer { IfOk result (DraftAnswer paths.old draft.now) }
 {
-    let Some(target) = target_of(paths.checked, draft)? else {
+    let Some(target) = target_of(paths.checked(), draft)? else {
         return Ok(None);
     };
     let reply = draft.reply;

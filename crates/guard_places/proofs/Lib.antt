@@ -1,0 +1,4 @@
+pub mod Inners
+pub mod Placing
+pub mod Signatures
+pub mod Tabled
