@@ -1,0 +1,5 @@
+pub mod Behind
+pub mod Labels
+pub mod Lines
+pub mod Parts
+pub mod Steps

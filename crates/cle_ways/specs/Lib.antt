@@ -1,0 +1,4 @@
+pub mod Ways
+pub mod Carries
+pub mod Flow
+pub mod Spots
