@@ -29,7 +29,7 @@ fn closes(alloc: Global, edges: &[Edge], pair: Edge) -> Result<bool, NoMemory>
         node: pair.to,
         label: 0,
     };
-    let carried = propagate(alloc, LEVELS, 1, &[seed], edges)?;
+    let carried = propagate(alloc, LEVELS as usize, 1, &[seed], edges)?;
     Ok(carried.has(pair.from, 0))
 }
 
@@ -38,7 +38,7 @@ fn place_of(pair: Edge) -> usize
     requires { IsPair pair }
     ensures { result ≡ pair.from * 32 + pair.to }
 {
-    pair.from as usize * 32 + pair.to as usize
+    pair.from * 32 + pair.to
 }
 
 /// Pairs of levels, and at the place of each that it is among them.
@@ -123,8 +123,8 @@ fn pair_of(levels: &Levels, call: Call) -> Edge
     ensures levels { result ≡ cycles.pair_of levels.now call }
 {
     Edge {
-        from: level_at(levels, call.caller),
-        to: level_at(levels, call.callee),
+        from: level_at(levels, call.caller) as usize,
+        to: level_at(levels, call.callee) as usize,
     }
 }
 

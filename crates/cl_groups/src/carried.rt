@@ -15,7 +15,7 @@ use cl_reach::propagate::{Carried, propagate};
 use std::alloc::Global;
 
 /// How many nodes there are: functions have the even ones, objects the odd ones.
-const NODES: u32 = FUNCTIONS + OBJECTS;
+const NODES: usize = (FUNCTIONS + OBJECTS) as usize;
 
 /// The levels that nodes bear: those of annotated symbols, led along the ties of unannotated ones.
 pub fn carried(alloc: Global, own: &Own, bodies: &[Body]) -> Result<Carried, NoMemory>
@@ -29,7 +29,7 @@ pub fn carried(alloc: Global, own: &Own, bodies: &[Body]) -> Result<Carried, NoM
     let carried = propagate(
         alloc,
         NODES,
-        LEVELS,
+        LEVELS as usize,
         ties.seeds.as_slice(),
         ties.edges.as_slice(),
     )?;

@@ -9,14 +9,14 @@ use cl_base::limits::FUNCTIONS;
 use cl_reach::propagate::Carried;
 
 /// Whether the symbol of a number is unannotated and bears two levels.
-fn conflicts(carried: &Carried, own: &[Option<u32>], odd: u32, k: usize) -> bool
+fn conflicts(carried: &Carried, own: &[Option<u32>], odd: usize, k: usize) -> bool
     requires few { k < FUNCTIONS }
     requires odd { odd ≤ 1 }
     ensures free { result ≡ true → slice_index_or own.now k None ≡ None }
     ensures two { result ≡ true → BearsTwo carried.now (2 * k + odd) }
     ensures one { result ≡ false → slice_index_or own.now k None ≡ None → BearsOne carried.now (2 * k + odd) }
 {
-    own_at(own, k).is_none() && bears_two(carried, k as u32 * 2 + odd)
+    own_at(own, k).is_none() && bears_two(carried, k * 2 + odd)
 }
 
 /// The lesser of two numbers that may be there.
@@ -46,7 +46,7 @@ pub fn first_conflict(
     carried: &Carried,
     own: &[Option<u32>],
     lines: &[u32],
-    odd: u32,
+    odd: usize,
 ) -> Option<u32>
     requires few { length lines.now ≤ FUNCTIONS }
     requires odd { odd ≤ 1 }

@@ -11,11 +11,11 @@ use sqlite_items::Items;
 use std::alloc::Global;
 
 /// The first level from a number on that a node bears.
-pub fn next_level(carried: &Carried, node: u32, from: u32) -> Option<u32>
+pub fn next_level(carried: &Carried, node: usize, from: u32) -> Option<u32>
     ensures { MatchOption result (NoneBetween carried.now node from LEVELS) (λ level. IsNext carried.now node from level) }
 {
     for level in from..LEVELS {
-        if carried.has(node, level) {
+        if carried.has(node, level as usize) {
             return Some(level);
         }
     }
@@ -23,7 +23,7 @@ pub fn next_level(carried: &Carried, node: u32, from: u32) -> Option<u32>
 }
 
 /// Whether a node bears two levels.
-pub fn bears_two(carried: &Carried, node: u32) -> bool
+pub fn bears_two(carried: &Carried, node: usize) -> bool
     ensures two { result ≡ true → BearsTwo carried.now node }
     ensures one { result ≡ false → BearsOne carried.now node }
 {
@@ -34,7 +34,7 @@ pub fn bears_two(carried: &Carried, node: u32) -> bool
 }
 
 /// The level of a symbol: its own, or one that its node bears; `otherwise` where it has neither.
-fn standing(carried: &Carried, own: Option<u32>, node: u32, otherwise: u32) -> u32
+fn standing(carried: &Carried, own: Option<u32>, node: usize, otherwise: u32) -> u32
     ensures { Stands carried.now own node otherwise result }
 {
     if let Some(level) = own {
@@ -47,12 +47,12 @@ fn standing(carried: &Carried, own: Option<u32>, node: u32, otherwise: u32) -> u
 }
 
 /// The level of the symbol of a number; functions have even nodes, objects odd ones.
-pub fn level_at(carried: &Carried, own: &[Option<u32>], odd: u32, k: usize, otherwise: u32) -> u32
+pub fn level_at(carried: &Carried, own: &[Option<u32>], odd: usize, k: usize, otherwise: u32) -> u32
     requires few { k < FUNCTIONS }
     requires odd { odd ≤ 1 }
     ensures { Stands carried.now (slice_index_or own.now k None) (2 * k + odd) otherwise result }
 {
-    standing(carried, own_at(own, k), k as u32 * 2 + odd, otherwise)
+    standing(carried, own_at(own, k), k * 2 + odd, otherwise)
 }
 
 /// The levels of the symbols of one sort.
@@ -60,7 +60,7 @@ pub fn levels_of(
     alloc: Global,
     carried: &Carried,
     own: &[Option<u32>],
-    odd: u32,
+    odd: usize,
     count: usize,
     otherwise: u32,
 ) -> Result<Items<u32>, NoMemory>

@@ -22,23 +22,23 @@ pub struct Ties {
 }
 
 /// The node of a function.
-pub fn function_node(k: usize) -> u32
+pub fn function_node(k: usize) -> usize
     requires { k < FUNCTIONS }
     ensures { result ≡ 2 * k }
 {
-    k as u32 * 2
+    k * 2
 }
 
 /// The node of an object.
-pub fn object_node(k: usize) -> u32
+pub fn object_node(k: usize) -> usize
     requires { k < OBJECTS }
     ensures { result ≡ 2 * k + 1 }
 {
-    k as u32 * 2 + 1
+    k * 2 + 1
 }
 
 /// Adds edges both ways, if there is a tie.
-fn add_both(edges: &mut Vec<Edge>, tied: bool, a: u32, b: u32) -> Result<(), NoMemory>
+fn add_both(edges: &mut Vec<Edge>, tied: bool, a: usize, b: usize) -> Result<(), NoMemory>
     ensures { OnOk result (edges.new.items ≡ edges.old.items ++ both tied a b) }
 {
     if tied {
@@ -53,13 +53,14 @@ fn add_seed(
     seeds: &mut Vec<Seed>,
     level: Option<u32>,
     free: bool,
-    node: u32,
+    node: usize,
 ) -> Result<(), NoMemory>
     ensures { OnOk result (seeds.new.items ≡ seeds.old.items ++ lay level free node) }
 {
     match level {
-        Some(label) => {
+        Some(level) => {
             if free {
+                let label = level as usize;
                 seeds.push(Seed { node, label })?;
             }
             Ok(())

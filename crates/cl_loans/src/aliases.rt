@@ -29,7 +29,7 @@ fn is_named(named: &Carried, f: usize, k: usize) -> bool
     if k >= OBJECTS as usize {
         return false;
     }
-    named.has(f as u32, k as u32)
+    named.has(f, k)
 }
 
 /// The same of a variable.

@@ -30,8 +30,8 @@ impl Naming {
         match used {
             Use::Named { object, line: _ } => {
                 self.seeds.push(Seed {
-                    node: f as u32,
-                    label: *object as u32,
+                    node: f,
+                    label: *object,
                 })?;
                 Ok(())
             }
@@ -41,8 +41,8 @@ impl Naming {
                 line: _,
             } => {
                 self.edges.push(Edge {
-                    from: *callee as u32,
-                    to: f as u32,
+                    from: *callee,
+                    to: f,
                 })?;
                 Ok(())
             }
@@ -87,8 +87,8 @@ pub fn named(alloc: Global, bodies: &[Body]) -> Result<Carried, NoMemory>
     let naming = Naming::of(alloc, bodies)?;
     let carried = propagate(
         alloc,
-        FUNCTIONS,
-        OBJECTS,
+        FUNCTIONS as usize,
+        OBJECTS as usize,
         naming.seeds.as_slice(),
         naming.edges.as_slice(),
     )?;

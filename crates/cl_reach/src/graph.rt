@@ -10,14 +10,14 @@ use std::marker::Model;
 /// An edge between two nodes, which are numbers from 0 on.
 #[derive(Clone, Copy, PartialEq, Eq)]
 pub struct Edge {
-    pub from: u32,
-    pub to: u32,
+    pub from: usize,
+    pub to: usize,
 }
 
 /// A graph, which contracts see as the list of the targets of each node.
 #[derive(Drop)]
 pub struct Graph {
-    rows: Vec<Vec<u32>>,
+    rows: Vec<Vec<usize>>,
 }
 
 impl Model for Graph {
@@ -64,7 +64,7 @@ impl Graph {
     }
 
     /// Where the edges of a node lead.
-    pub fn targets(&self, node: usize) -> &[u32]
+    pub fn targets(&self, node: usize) -> &[usize]
         requires { node < length self.now }
         ensures { result.now ≡ slice_index_or self.now node [] }
     {
@@ -76,7 +76,7 @@ impl Graph {
         requires { edge.from < length self.old }
         ensures { OnOk result (self.new ≡ slice_set self.old edge.from (slice_index_or self.old edge.from [] ++ edge.to ∷ [])) }
     {
-        self.rows[edge.from as usize].push(edge.to)?;
+        self.rows[edge.from].push(edge.to)?;
         Ok(())
     }
 }

@@ -1,6 +1,6 @@
 //! Labels that go along the edges of a graph.
 
-ghost use Rattle.std.specs.Prelude.{◌≡◌, ℕ, ◌<◌, ◌≤◌, ◌*◌, ◌+◌, ◌^◌, ◌↔◌, [], ◌∷◌, length, slice_index, slice_index_or, map, Vec, IfOk, OnOk, All, Contains, IsTrue};
+ghost use Rattle.std.specs.Prelude.{◌≡◌, ℕ, ◌<◌, ◌≤◌, ◌*◌, ◌+◌, ◌↔◌, [], ◌∷◌, length, slice_index, slice_index_or, map, Vec, IfOk, OnOk, All, Contains, IsTrue};
 ghost use Rattle.cl_reach.specs.Reach.{Leads, Reaches, Has, HasEdge, Carries, Bears};
 ghost use Rattle.std.specs.declared.alloc.Global.{Global};
 ghost use Rattle.cl_reach.specs.Seeds.{Plants, Seeded, CarriesBatch, CarriesBatches};
@@ -13,22 +13,22 @@ use std::marker::Model;
 /// A label that lies at a node from the start.
 #[derive(Clone, Copy, PartialEq, Eq)]
 pub struct Seed {
-    pub node: u32,
-    pub label: u32,
+    pub node: usize,
+    pub label: usize,
 }
 
 /// Lays a seed, if its label is one of a batch.
-fn plant(seed: Seed, batch: u32, words: &mut [u64])
+fn plant(seed: Seed, batch: usize, words: &mut [u64])
     requires { seed.node < length words.old }
     ensures { Plants seed batch words.old words.new }
 {
     if seed.label / 64 == batch {
-        words[seed.node as usize] |= 1u64 << (seed.label % 64);
+        words[seed.node] |= 1u64 << (seed.label % 64);
     }
 }
 
 /// Lays the seeds of a batch into words that have no bit yet.
-fn lay(seeds: &[Seed], batch: u32, words: &mut [u64])
+fn lay(seeds: &[Seed], batch: usize, words: &mut [u64])
     requires nodes { All (λ s. s.node < length words.old) seeds.now }
     requires empty { (x : ℕ) → slice_index words.old x ≡ 0 }
     ensures { Seeded seeds.now batch words.new }
@@ -43,10 +43,9 @@ fn batch_words(
     alloc: Global,
     graph: &Graph,
     seeds: &[Seed],
-    batch: u32,
+    batch: usize,
     words: &mut [u64],
 ) -> Result<(), AllocError>
-    requires number { length words.old < 2 ^ 32 }
     requires nodes { length graph.now ≡ length words.old }
     requires empty { (x : ℕ) → slice_index words.old x ≡ 0 }
     requires seeds { All (λ s. s.node < length words.old) seeds.now }
@@ -63,9 +62,8 @@ fn batch_of(
     alloc: Global,
     graph: &Graph,
     seeds: &[Seed],
-    batch: u32,
+    batch: usize,
 ) -> Result<Vec<u64>, AllocError>
-    requires number { length graph.now < 2 ^ 32 }
     requires seeds { All (λ s. s.node < length graph.now) seeds.now }
     requires targets { (x : ℕ) → All (λ t. t < length graph.now) (slice_index_or graph.now x []) }
     ensures { IfOk result (λ words. CarriesBatch (Leads graph.now) seeds.now batch words.items) }
@@ -95,17 +93,17 @@ impl Model for Carried {
 
 impl Carried {
     /// Whether a node carries a label.
-    pub fn has(&self, node: u32, label: u32) -> bool
+    pub fn has(&self, node: usize, label: usize) -> bool
         ensures { IsTrue result ↔ Bears self.now label node }
     {
-        match self.batches.get(label as usize / 64) {
-            Some(words) => has_bit(words.as_slice(), node as usize, label % 64),
+        match self.batches.get(label / 64) {
+            Some(words) => has_bit(words.as_slice(), node, label % 64),
             None => false,
         }
     }
 }
 
-fn has_bit(words: &[u64], node: usize, bit: u32) -> bool
+fn has_bit(words: &[u64], node: usize, bit: usize) -> bool
     requires { bit < 64 }
     ensures { IsTrue result ↔ Has words.now bit node }
 {
@@ -120,9 +118,8 @@ fn batches_of(
     alloc: Global,
     graph: &Graph,
     seeds: &[Seed],
-    count: u32,
+    count: usize,
 ) -> Result<Vec<Vec<u64>>, AllocError>
-    requires number { length graph.now < 2 ^ 32 }
     requires seeds { All (λ s. s.node < length graph.now) seeds.now }
     requires targets { (x : ℕ) → All (λ t. t < length graph.now) (slice_index_or graph.now x []) }
     ensures { IfOk result (λ batches. CarriesBatches (Leads graph.now) seeds.now count (map (λ (words : Vec ℕ Global). words.items) batches.items)) }
@@ -138,8 +135,8 @@ fn batches_of(
 /// from a node that carries it.
 pub fn propagate(
     alloc: Global,
-    nodes: u32,
-    labels: u32,
+    nodes: usize,
+    labels: usize,
     seeds: &[Seed],
     edges: &[Edge],
 ) -> Result<Carried, AllocError>
@@ -150,7 +147,7 @@ pub fn propagate(
     ensures sound { IfOk result (λ c. (m x : ℕ) → Bears c m x → Carries seeds.now edges.now m x) }
     ensures complete { IfOk result (λ c. (m x : ℕ) → Carries seeds.now edges.now m x → Bears c m x) }
 {
-    let graph = Graph::of(alloc, nodes as usize, edges)?;
+    let graph = Graph::of(alloc, nodes, edges)?;
     let batches = batches_of(alloc, &graph, seeds, labels / 64 + 1)?;
     Ok(Carried { batches })
 }

@@ -9,7 +9,7 @@ use std::marker::Model;
 /// The nodes that wait, the next one first.
 #[derive(Drop)]
 pub struct Queue {
-    nodes: VecDeque<u32>,
+    nodes: VecDeque<usize>,
     waits: Vec<bool>,
 }
 
@@ -39,30 +39,30 @@ impl Queue {
     }
 
     /// Lets a node wait, behind all others where it doesn't wait yet.
-    pub fn add(&mut self, node: u32) -> Result<(), AllocError>
+    pub fn add(&mut self, node: usize) -> Result<(), AllocError>
         ensures waits { OnOk result (Contains self.new node) }
         ensures kept { OnOk result ((x : ℕ) → Contains self.old x → Contains self.new x) }
         ensures only { OnOk result ((x : ℕ) → Contains self.new x → Contains self.old x ⊎ (x ≡ node)) }
         ensures length { OnOk result (length self.new ≤ length self.old + 1) }
     {
-        if let Some(waits) = self.waits.get_mut(node as usize) {
+        if let Some(waits) = self.waits.get_mut(node) {
             if *waits {
                 return Ok(());
             }
         }
         self.nodes.push_back(node)?;
-        if let Some(waits) = self.waits.get_mut(node as usize) {
+        if let Some(waits) = self.waits.get_mut(node) {
             *waits = true;
         }
         Ok(())
     }
 
     /// Takes the next node.
-    pub fn take(&mut self) -> Option<u32>
+    pub fn take(&mut self) -> Option<usize>
         ensures { MatchOption result (self.old ≡ []) (λ x. self.old ≡ x ∷ self.new) }
     {
         let node = self.nodes.pop_front()?;
-        if let Some(waits) = self.waits.get_mut(node as usize) {
+        if let Some(waits) = self.waits.get_mut(node) {
             *waits = false;
         }
         Some(node)

@@ -4,13 +4,13 @@ use cl_reach::graph::Edge;
 use cl_reach::propagate::{Seed, propagate};
 use std::alloc::AllocError;
 
-fn edge(from: u32, to: u32) -> Edge
+fn edge(from: usize, to: usize) -> Edge
     ensures { result ≡ record { from = from; to = to } }
 {
     Edge { from, to }
 }
 
-fn seed(node: u32, label: u32) -> Seed
+fn seed(node: usize, label: usize) -> Seed
     ensures { result ≡ record { node = node; label = label } }
 {
     Seed { node, label }

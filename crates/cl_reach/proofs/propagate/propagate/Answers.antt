@@ -1,4 +1,4 @@
-use Rattle.std.proofs.Common.{arith, ◌≡◌, ◌<◌, ◌/◌, ◌+◌, ℕ, length, get_or, map, subst, sym, []}
+use Rattle.std.proofs.Common.{◌≡◌, ◌<◌, ◌/◌, ◌+◌, ℕ, length, get_or, map, subst, sym, []}
 use Rattle.cl_reach.proofs.Batches.{rows_targets, all_sound, all_complete, words_of}
 use Rattle.cl_reach.proofs.propagate.propagate.Goals as goal
 
@@ -6,7 +6,6 @@ pub batches_of-requires : goal.batches_of-requires
 batches_of-requires c =
     let e : length c.in_ok-graph.graph ≡ c.args.nodes = c.in_ok-graph.ensures.length in
     record {
-      number = omega arith;
       seeds = λ k d h. subst (λ (n : ℕ). (get_or c.args.seeds.now k d).node < n) (sym e) (c.requires.seeds k d h);
       targets = λ x k d h. subst (λ (n : ℕ). get_or (get_or c.in_ok-graph.graph x []) k d < n) (sym e) (rows_targets c.args.edges.now c.args.nodes c.in_ok-graph.graph c.requires.targets c.in_ok-graph.ensures.edges x k d h);
     }
