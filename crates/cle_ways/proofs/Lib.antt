@@ -1,5 +1,3 @@
-pub mod Behind
 pub mod Labels
 pub mod Lines
 pub mod Parts
-pub mod Steps

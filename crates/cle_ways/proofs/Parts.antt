@@ -1,16 +1,15 @@
 -- What one expression more adds to what is noted.
-use Rattle.std.proofs.Common.{◌≡◌, ℕ, suc, ◌+◌, ◌<◌, List, [], ◌∷◌, ◌++◌, map, length, drop, get_or, Option, Bool, true, false, Result, Ok, Err, OnOk, refl, sym, ap, ◌∙◌, append_assoc, add-one, drop-cons}
+use Rattle.std.proofs.Common.{◌≡◌, ℕ, suc, ◌+◌, ◌<◌, List, [], ◌∷◌, ◌++◌, map, length, drop, get_or, Option, Result, Ok, Err, OnOk, refl, sym, ap, ◌∙◌, append_assoc, add-one, drop-cons}
 use Rattle.cl_base.specs.declared.name.NoMemory.{NoMemory}
-use Rattle.cl_tree.specs.declared.tree.Declarator.{Declarator}
 use Rattle.cl_tree.specs.declared.tree.Expr.{Expr}
 use Rattle.cl_levels.specs.declared.uses.Variable.{Variable}
 use Rattle.cl_levels.specs.Crossings.{Levelled, level_of}
-use Rattle.cl_levels.specs.Uses.{Known, Names, with_static}
+use Rattle.cl_levels.specs.Uses.{Known}
 use Rattle.cl_levels.proofs.Steps.{joined}
 use Rattle.cle_ways.specs.declared.ways.Admitted.TheVariants.{OfLevel}
 use Rattle.cle_ways.specs.declared.ways.Note.{Note}
 use Rattle.cle_ways.specs.declared.ways.Origin.{Origin}
-use Rattle.cle_ways.specs.Ways.{gist, used_expr, in_body, moved, array_at, argument, arguments, bound, printed, statics_walk, declare_walk}
+use Rattle.cle_ways.specs.Ways.{gist, used_expr, in_body, moved, array_at, argument, arguments, bound, printed}
 use Rattle.cle_ways.proofs.Lines.{line_is}
 
 pub on_ok : (r : Result (Unit {0}) NoMemory) (P Q : Type 0) → (P → Q) → OnOk r P → OnOk r Q
@@ -62,12 +61,3 @@ module _ (l : Levelled) (f : ℕ) (ks : List Known) where
   arguments_step callee line k all e old new whole within is h rest =
       joined old new (argument l f callee line k (gist l f ks e)) (arguments l f callee line k (map (gist l f ks) (drop k all))) whole
       (arguments l f callee line (k + 1) (map (gist l f ks) (drop (k + 1) all))) h (next_argument callee line k all e within is) rest
-
--- nothing is noted of static locals
-silent : (ds : List Declarator) (ns : Names) → (statics_walk ds ns).0 ≡ []
-silent [] ns = refl
-silent (d ∷ ds) ns = silent ds (with_static d.name ns)
-
-pub declared_silent : (l : Levelled) (f : ℕ) (b : Bool) (ds : List Declarator) (ns : Names) → b ≡ true → (declare_walk l f b ds ns).0 ≡ []
-declared_silent l f true ds ns e = silent ds ns
-declared_silent l f false ds ns e = absurd (cc)

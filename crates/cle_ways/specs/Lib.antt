@@ -1,4 +1,4 @@
 pub mod Ways
 pub mod Carries
 pub mod Flow
-pub mod Spots
+pub mod Programs

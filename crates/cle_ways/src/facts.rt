@@ -9,7 +9,7 @@ ghost use Rattle.cl_labelling.specs.Fits.{defined_by};
 ghost use Rattle.cl_levels.specs.Levels.{no_fact};
 ghost use Rattle.cl_levels.specs.Crossings as crossing;
 ghost use Rattle.cle_ways.specs.Ways as ways;
-ghost use Rattle.cle_ways.specs.Spots.{levelled};
+ghost use Rattle.cle_ways.specs.Programs.{levelled};
 
 use cl_base::name::{Name, NoMemory};
 use cl_levels::uses::Variable;
@@ -37,7 +37,7 @@ impl<'a> Model for Program<'a> {
     ghost use Rattle.cl_mean.specs.contracts.checked.Typed as t;
     ghost use Rattle.cl_mean.specs.contracts.checked.Levels as v;
     ghost use Rattle.cl_mean.specs.contracts.labels.LabelTable as b;
-    ghost use Rattle.cle_ways.specs.Spots.{levelled};
+    ghost use Rattle.cle_ways.specs.Programs.{levelled};
 
     ghost Value = { Levelled };
 

@@ -4,8 +4,5 @@
 pub mod exprs;
 pub mod facts;
 pub mod places;
-pub mod program;
 pub mod spot;
-pub mod stmts;
-pub mod walk;
 pub mod ways;

@@ -5,7 +5,7 @@ use sqlite_items::Items;
 
 /// What carries labels: an object of static duration by its number, a parameter or a local by the number of
 /// its function and its own there, parameters first, or the result of a function.
-#[derive(Clone, Copy, PartialEq, Eq)]
+#[derive(Clone, Copy, PartialEq, Eq, Hash)]
 pub enum Holder {
     Object(usize),
     Local(usize, usize),

@@ -1,6 +1,0 @@
-use Rattle.std.proofs.Common.{◌≡◌, drop}
-use Rattle.cl_levels.specs.Uses.{with_params}
-use Rattle.cle_ways.proofs.walk.bind_params.Given as goal
-
-abbrev pub invariant-loop-d : goal.invariant-loop-d
-invariant-loop-d l = with_params (drop l.d-index l.ds) l.spot ≡ with_params l.ds l.initial.spot
