@@ -28,7 +28,7 @@ fn just(alloc: Global, mentions: &[Mention]) -> Result<Vec<Origin>, NoMemory>
     Ok(origins)
 }
 
-fn put_just(
+pub fn put_just(
     alloc: Global,
     x: Holder,
     mentions: &[Mention],
@@ -41,7 +41,7 @@ fn put_just(
 }
 
 #[tactic(auto, unfolding(cle_ways::specs::Ways::params_carry))]
-fn put_params(
+pub fn put_params(
     alloc: Global,
     f: usize,
     args: &[Mentions],
