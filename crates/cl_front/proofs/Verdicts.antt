@@ -1,6 +1,7 @@
 -- A source has one verdict.
 use Rattle.std.proofs.Common.{◌≡◌, ◌⊎◌, inl, inr, ℕ, List, refl, sym, ap, subst, ◌∙◌, Result, Ok, Err, IfOk, IfErr, MatchResult}
 use Rattle.cl_mean.specs.declared.checked.Checked.{Checked}
+use Rattle.cl_mean.specs.declared.checked.Flow.{Flow}
 use Rattle.cl_mean.specs.declared.checked.GedlRows.{GedlRows}
 use Rattle.cl_mean.specs.declared.checked.Levels.{Levels}
 use Rattle.cl_mean.specs.declared.checked.Typed.{Typed}
@@ -21,7 +22,7 @@ use Rattle.cle_defs.specs.Answer as labelling
 use Rattle.cle_defs.specs.declared.stop.CleStop.{CleStop}
 use Rattle.cle_defs.specs.declared.stop.CleStop.TheVariants as defs
 use Rattle.cle_defs.proofs.Answered as table
-use Rattle.cl_levels.specs.Crossings.{level_rules, crossing_rules}
+use Rattle.cl_levels.specs.Crossings.{Levelled, level_rules, crossing_rules}
 use Rattle.cl_levels.specs.Placed.{AllPlacedHold}
 use Rattle.cl_levels.proofs.Answered.{not_both, one_first}
 use Rattle.cl_levels.proofs.Levelled.{one_levels}
@@ -32,11 +33,17 @@ use Rattle.cl_split.specs.declared.stop.SplitStop.TheVariants as split
 use Rattle.cl_split.proofs.Answered as levels
 use Rattle.cl_split.proofs.Lines as rows
 use Rattle.cl_split.proofs.Refused.{one_rows}
+use Rattle.cle_ways.specs.Flow.{flow_rules}
+use Rattle.cle_flow.specs.Answer.{HasFlow, FlowFails}
+use Rattle.cle_flow.specs.Answer as flowing
+use Rattle.cle_flow.specs.declared.stop.FlowStop.{FlowStop}
+use Rattle.cle_flow.specs.declared.stop.FlowStop.TheVariants as flow
+use Rattle.cle_flow.proofs.Answered as carried
 use Rattle.std.specs.Result.{IsErrAnd}
 use Rattle.cl_front.specs.declared.stop.FrontStop.{FrontStop}
 use Rattle.cl_front.specs.declared.stop.FrontStop.TheVariants.{Refused, NoMemory}
-use Rattle.cl_front.specs.Stops.{of_reading, of_typing, of_labelling, of_splitting}
-use Rattle.cl_front.specs.Verdict.{no_flow, IsAccepted, InTurn, DivisionFails, AnnotationsFail, ProgramFails, IsRefused, IsRefusal, Verdict}
+use Rattle.cl_front.specs.Stops.{of_reading, of_typing, of_labelling, of_splitting, of_flowing}
+use Rattle.cl_front.specs.Verdict.{IsAccepted, InTurn, CallsFail, DivisionFails, AnnotationsFail, ProgramFails, IsRefused, IsRefusal, Verdict}
 use Rattle.cl_front.proofs.Turns.{Once, Never, once, never}
 
 -- ---- what the passes' refusals say of the source
@@ -67,9 +74,14 @@ module _ (bytes : List ℕ) (p : Program) (r : ReadsWithin bytes p) where
       levels_fail (split.Rule rule line) h = inr (p, (r, inr (t, (is, inr (l, (has, inl h))))))
       levels_fail split.NoMemory h = tt
 
-      pub crossings_fail : (v : Levels) → HasLevels (annotated t l) v → (e : SplitStop) → splitting.IsFailure (crossing_rules (levelled t l v)) e → IsRefusal bytes (of_splitting e)
-      crossings_fail v h (split.Rule rule line) f = inr (p, (r, inr (t, (is, inr (l, (has, inr (v, (h, f))))))))
-      crossings_fail v h split.NoMemory f = tt
+      module _ (v : Levels) (h : HasLevels (annotated t l) v) where
+        pub crossings_fail : (e : SplitStop) → splitting.IsFailure (crossing_rules (levelled t l v)) e → IsRefusal bytes (of_splitting e)
+        crossings_fail (split.Rule rule line) f = inr (p, (r, inr (t, (is, inr (l, (has, inr (v, (h, inl f))))))))
+        crossings_fail split.NoMemory f = tt
+
+        pub flow_fails : (rows : GedlRows) → HasRows (levelled t l v) rows → (e : FlowStop) → flowing.IsFailure (flow_rules (levelled t l v)) e → IsRefusal bytes (of_flowing e)
+        flow_fails rows g (flow.Rule rule line) f = inr (p, (r, inr (t, (is, inr (l, (has, inr (v, (h, inr (rows, (g, f))))))))))
+        flow_fails rows g flow.NoMemory f = tt
 
 -- ---- one verdict
 
@@ -79,10 +91,16 @@ no_levels_fail t l v h rule line f = not_both (level_rules (annotated t l)) rule
 same_levels : (t : Typed) (l : LabelTable) (x y : Levels) → HasLevels (annotated t l) x → HasLevels (annotated t l) y → x ≡ y
 same_levels t l x y f g = one_levels (annotated t l) f.holds.0 x y f.levelled g.levelled
 
+no_crossings_fail : (l : Levelled) (rows : GedlRows) → HasRows l rows → Never (CrossingsFail l)
+no_crossings_fail l rows h rule line f = not_both (crossing_rules l) rule line h.holds f
+
+calls_once : (l : Levelled) → Once (CallsFail l)
+calls_once l = once (CrossingsFail l) (HasRows l) (λ rows. FlowFails l) (λ x y f g. one_rows l x y f g) (no_crossings_fail l) (rows.one_failure l) (λ rows h. carried.one_failure l)
+
 division_once : (t : Typed) (l : LabelTable) → Once (DivisionFails t l)
 division_once t l =
-    once (LevelsFail (annotated t l)) (HasLevels (annotated t l)) (λ v. CrossingsFail (levelled t l v)) (same_levels t l) (no_levels_fail t l)
-    (levels.one_failure (annotated t l)) (λ v h. rows.one_failure (levelled t l v))
+    once (LevelsFail (annotated t l)) (HasLevels (annotated t l)) (λ v. CallsFail (levelled t l v)) (same_levels t l) (no_levels_fail t l)
+    (levels.one_failure (annotated t l)) (λ v h. calls_once (levelled t l v))
 
 annotations_once : (t : Typed) → Once (AnnotationsFail t)
 annotations_once t =
@@ -99,6 +117,10 @@ one_refusal bytes =
     once (FailsFirst bytes) (ReadsWithin bytes) ProgramFails (source.one_reading bytes) (λ x h rule line f. source.one_side_only bytes (x, h) (rule, line, f))
     (source.one_failure bytes) (λ p h. program_once p)
 
+no_call_fails : (l : Levelled) (rows : GedlRows) (f : Flow) → HasRows l rows → HasFlow l f → Never (CallsFail l)
+no_call_fails l rows f h k = never (CrossingsFail l) (HasRows l) (λ r. FlowFails l) (λ x y p q. one_rows l x y p q) (no_crossings_fail l)
+    rows h (λ rule line p. not_both (flow_rules l) rule line k.holds p)
+
 pub not_refused : (bytes : List ℕ) (c : Checked) → IsAccepted bytes c → Never (IsRefused bytes)
 not_refused bytes c h =
     never (FailsFirst bytes) (ReadsWithin bytes) ProgramFails (source.one_reading bytes) (λ x k rule line f. source.one_side_only bytes (x, k) (rule, line, f))
@@ -107,9 +129,8 @@ not_refused bytes c h =
     c.typed h.is_typed
     (never (LabellingFails c.typed) (IsLabelled c.typed) (DivisionFails c.typed) (table.one_table c.typed) (λ x k rule line f. table.one_side c.typed (x, k) (rule, line, f))
     c.labels h.is_labelled
-    (never (LevelsFail (annotated c.typed c.labels)) (HasLevels (annotated c.typed c.labels)) (λ v. CrossingsFail (levelled c.typed c.labels v)) (same_levels c.typed c.labels) (no_levels_fail c.typed c.labels)
-    c.levels h.has_levels
-    (λ rule line f. not_both (crossing_rules (levelled c.typed c.labels c.levels)) rule line h.has_rows.holds f))))
+    (never (LevelsFail (annotated c.typed c.labels)) (HasLevels (annotated c.typed c.labels)) (λ v. CallsFail (levelled c.typed c.labels v)) (same_levels c.typed c.labels) (no_levels_fail c.typed c.labels)
+    c.levels h.has_levels (no_call_fails (levelled c.typed c.labels c.levels) c.gedl c.flow h.has_rows h.has_flow))))
 
 -- ---- one checked source
 
@@ -126,6 +147,11 @@ module _ (x c : Checked) (t : x.typed ≡ c.typed) where
     levels_same : HasLevels (annotated x.typed x.labels) x.levels → HasLevels (annotated c.typed c.labels) c.levels → x.levels ≡ c.levels
     levels_same f g = same_levels c.typed c.labels x.levels c.levels
         (subst (λ y. HasLevels (annotated c.typed y) x.levels) l (subst (λ y. HasLevels (annotated y x.labels) x.levels) t f)) g
+
+    flow_same : x.levels ≡ c.levels → HasFlow (levelled x.typed x.labels x.levels) x.flow → HasFlow (levelled c.typed c.labels c.levels) c.flow → x.flow ≡ c.flow
+    flow_same v f g =
+        let h : HasFlow (levelled c.typed c.labels c.levels) x.flow = subst (λ y. HasFlow (levelled c.typed c.labels y) x.flow) v (subst (λ y. HasFlow (levelled c.typed y x.levels) x.flow) l (subst (λ y. HasFlow (levelled y x.labels x.levels) x.flow) t f)) in
+        carried.one_flow (levelled c.typed c.labels c.levels) x.flow c.flow h.is_flow g.is_flow
 
     rows_same : x.levels ≡ c.levels → HasRows (levelled x.typed x.labels x.levels) x.gedl → HasRows (levelled c.typed c.labels c.levels) c.gedl → x.gedl ≡ c.gedl
     rows_same v f g = one_rows (levelled c.typed c.labels c.levels) x.gedl c.gedl
@@ -144,7 +170,7 @@ one_checked bytes x c f g =
     let t = same_typed bytes x c f g in
     let l = same_labels x c t f.is_labelled g.is_labelled in
     let v = levels_same x c t l f.has_levels g.has_levels in
-    same_parts x c t l v (f.without_flow ∙ sym g.without_flow) (rows_same x c t l v f.has_rows g.has_rows)
+    same_parts x c t l v (flow_same x c t l v f.has_flow g.has_flow) (rows_same x c t l v f.has_rows g.has_rows)
 
 -- ---- what `accept` answers
 

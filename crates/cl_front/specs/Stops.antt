@@ -7,6 +7,8 @@ use Rattle.cle_defs.specs.declared.stop.CleStop.{CleStop}
 use Rattle.cle_defs.specs.declared.stop.CleStop.TheVariants as labelling
 use Rattle.cl_split.specs.declared.stop.SplitStop.{SplitStop}
 use Rattle.cl_split.specs.declared.stop.SplitStop.TheVariants as splitting
+use Rattle.cle_flow.specs.declared.stop.FlowStop.{FlowStop}
+use Rattle.cle_flow.specs.declared.stop.FlowStop.TheVariants as flowing
 use Rattle.cl_front.specs.declared.stop.FrontStop.{FrontStop}
 use Rattle.cl_front.specs.declared.stop.FrontStop.TheVariants.{Refused, NoMemory}
 
@@ -25,3 +27,7 @@ of_labelling labelling.NoMemory = NoMemory
 abbrev pub of_splitting : SplitStop → FrontStop
 of_splitting (splitting.Rule rule line) = Refused rule line
 of_splitting splitting.NoMemory = NoMemory
+
+abbrev pub of_flowing : FlowStop → FrontStop
+of_flowing (flowing.Rule rule line) = Refused rule line
+of_flowing flowing.NoMemory = NoMemory

@@ -1,7 +1,6 @@
 -- The verdict on a source: it is accepted, or a rule fails first.
-use Rattle.std.specs.Prelude.{◌≡◌, ◌⊎◌, ℕ, List, [], Result, Ok, Err}
+use Rattle.std.specs.Prelude.{◌⊎◌, ℕ, List, Result, Ok, Err}
 use Rattle.cl_mean.specs.declared.checked.Checked.{Checked}
-use Rattle.cl_mean.specs.declared.checked.Flow.{Flow}
 use Rattle.cl_mean.specs.declared.checked.Levels.{Levels}
 use Rattle.cl_mean.specs.declared.checked.Typed.{Typed}
 use Rattle.cl_mean.specs.declared.labels.LabelTable.{LabelTable}
@@ -9,13 +8,11 @@ use Rattle.cl_tree.specs.declared.tree.Program.{Program}
 use Rattle.cl_read.specs.Source.{ReadsWithin, FailsFirst}
 use Rattle.cl_typing.specs.Typing.{IsTyped, TypingFails}
 use Rattle.cl_labelling.specs.Labelling.{IsLabelled, LabellingFails}
+use Rattle.cl_levels.specs.Crossings.{Levelled}
 use Rattle.cl_split.specs.Answer.{annotated, levelled, HasLevels, HasRows, LevelsFail, CrossingsFail}
+use Rattle.cle_flow.specs.Answer.{HasFlow, FlowFails}
 use Rattle.cl_front.specs.declared.stop.FrontStop.{FrontStop}
 use Rattle.cl_front.specs.declared.stop.FrontStop.TheVariants.{Refused, NoMemory}
-
--- Which labels data carries isn't looked at yet.
-abbrev pub no_flow : Flow
-no_flow = record { objects = []; locals = []; results = [] }
 
 -- The source reads as a program of which each rule holds, and this is what was found out about it.
 pub record IsAccepted (source : List ℕ) (checked : Checked) : Type 0 where
@@ -24,7 +21,7 @@ pub record IsAccepted (source : List ℕ) (checked : Checked) : Type 0 where
   pub is_labelled : IsLabelled checked.typed checked.labels
   pub has_levels : HasLevels (annotated checked.typed checked.labels) checked.levels
   pub has_rows : HasRows (levelled checked.typed checked.labels checked.levels) checked.gedl
-  pub without_flow : checked.flow ≡ no_flow
+  pub has_flow : HasFlow (levelled checked.typed checked.labels checked.levels) checked.flow
 
 -- rules fail, by a number and a line
 abbrev pub Failing : Type 1
@@ -34,9 +31,12 @@ Failing = ℕ → ℕ → Type 0
 abbrev pub InTurn : {V : Type 0} → Failing → (V → Type 0) → (V → Failing) → Failing
 InTurn {V} Fails Is Behind rule line = Fails rule line ⊎ ((v : V) × (Is v × Behind v rule line))
 
+abbrev pub CallsFail : Levelled → Failing
+CallsFail l = InTurn (CrossingsFail l) (HasRows l) (λ rows. FlowFails l)
+
 abbrev pub DivisionFails : Typed → LabelTable → Failing
 DivisionFails typed labels =
-    InTurn (LevelsFail (annotated typed labels)) (HasLevels (annotated typed labels)) (λ levels. CrossingsFail (levelled typed labels levels))
+    InTurn (LevelsFail (annotated typed labels)) (HasLevels (annotated typed labels)) (λ levels. CallsFail (levelled typed labels levels))
 
 abbrev pub AnnotationsFail : Typed → Failing
 AnnotationsFail typed = InTurn (LabellingFails typed) (IsLabelled typed) (DivisionFails typed)

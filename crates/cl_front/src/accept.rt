@@ -3,29 +3,17 @@
 ghost use Rattle.std.specs.Prelude.{◌≡◌, ◌⊎◌, ◌≤◌, ℕ, List, length, IfOk, IfErr, MatchResult};
 ghost use Rattle.cl_base.specs.declared.limits.TheConstants.{SOURCE_BYTES};
 ghost use Rattle.cl_mean.specs.declared.checked.Checked.{Checked as CheckedValue};
-ghost use Rattle.cl_front.specs.Verdict as verdict;
 ghost use Rattle.cl_front.specs.Verdict.{IsAccepted, IsRefused, IsRefusal, Verdict};
 
 use crate::stop::FrontStop;
-use cl_mean::checked::{Checked, Flow};
+use cl_mean::checked::Checked;
 use cl_read::read::read_source;
 use cl_sema::resolve::resolve;
 use cl_split::assign::assign;
 use cl_split::crossings::crossings;
 use cle_defs::labels::labels;
-use sqlite_items::Items;
+use cle_flow::flow::flow;
 use std::alloc::Global;
-
-/// The labels that data carries aren't looked at yet.
-fn no_flow(alloc: Global) -> Flow
-    ensures { result ≡ verdict.no_flow }
-{
-    Flow {
-        objects: Items::new(alloc),
-        locals: Items::new(alloc),
-        results: Items::new(alloc),
-    }
-}
 
 fn accept_source(alloc: Global, bytes: &[u8]) -> Result<Checked, FrontStop>
     requires { length bytes.now ≤ SOURCE_BYTES }
@@ -36,22 +24,22 @@ fn accept_source(alloc: Global, bytes: &[u8]) -> Result<Checked, FrontStop>
     let labels = labels(alloc, &typed)?;
     let levels = assign(alloc, &typed, &labels)?;
     let gedl = crossings(alloc, &typed, &labels, &levels)?;
+    let flow = flow(alloc, &typed, &labels, &levels)?;
     Ok(Checked {
         typed,
         labels,
         levels,
-        flow: no_flow(alloc),
+        flow,
         gedl,
     })
 }
 
-/// Whether a source meets the rules E02 to E30 and E35, and what is found out about it. The lists of its
-/// flow are empty, since the rules on the labels that data carries aren't looked at yet.
+/// Whether a source meets the rules E02 to E35, and what is found out about it: the whole verdict.
 ///
 /// # Errors
 ///
 /// The first rule that fails, with the line of its first place, in this order: E02 to E05 and E07, whichever
-/// place is first; E23, E06; E08, E09, E19, E18, E20, E21, E22; E10 to E17, E35; E24 to E30. Or want of memory.
+/// place is first; E23, E06; E08, E09, E19, E18, E20, E21, E22; E10 to E17, E35; E24 to E34. Or want of memory.
 pub fn accept(alloc: Global, bytes: &[u8]) -> Result<Checked, FrontStop>
     requires { length bytes.now ≤ SOURCE_BYTES }
     // What is answered is the checked source, and no rule fails.

@@ -6,6 +6,7 @@ use cl_read::stop::ReadStop;
 use cl_sema::stop::SemaStop;
 use cl_split::stop::SplitStop;
 use cle_defs::stop::CleStop;
+use cle_flow::stop::FlowStop;
 
 /// Why a source isn't accepted.
 #[derive(Clone, Copy, PartialEq, Eq)]
@@ -64,6 +65,19 @@ impl From<SplitStop> for FrontStop {
         match stop {
             SplitStop::Rule { rule, line } => FrontStop::Refused { rule, line },
             SplitStop::NoMemory => FrontStop::NoMemory,
+        }
+    }
+}
+
+impl From<FlowStop> for FrontStop {
+    ghost use Rattle.cl_front.specs.Stops.{of_flowing};
+
+    ghost from_gives = { λ e s. s ≡ of_flowing e };
+
+    fn from(stop: FlowStop) -> FrontStop {
+        match stop {
+            FlowStop::Rule { rule, line } => FrontStop::Refused { rule, line },
+            FlowStop::NoMemory => FrontStop::NoMemory,
         }
     }
 }

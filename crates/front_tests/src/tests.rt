@@ -1,12 +1,15 @@
+mod flows;
 mod made;
 mod sources;
 
+use crate::tests::flows::{CARRIED, FLOWS};
 use crate::tests::made::{brackets, chain, levels};
 use crate::tests::sources::{ACCEPTED, LEVELS, REFUSED};
 use cl_base::limits::SOURCE_BYTES;
 use cl_front::accept::accept;
 use cl_front::stop::FrontStop;
-use cl_mean::checked::{Checked, GedlRow};
+use cl_mean::checked::{Carried, CarriedLocals, Checked, Flow, GedlRow};
+use cl_mean::labels::Mention;
 use std::alloc::{AllocError, Global};
 use std::test::Fail;
 
@@ -31,8 +34,8 @@ fn checked(alloc: Global, source: &str) -> Result<Checked, End> {
 }
 
 /// The first row that doesn't break the rule at the line.
-fn misjudged(alloc: Global) -> Option<(usize, Option<End>)> {
-    for (place, row) in REFUSED.iter().enumerate() {
+fn misjudged(alloc: Global, rows: &[(&str, u8, u32)]) -> Option<(usize, Option<End>)> {
+    for (place, row) in rows.iter().enumerate() {
         let (source, rule, line) = *row;
         let end = checked(alloc, source).err();
         if end != Some(End::Refused { rule, line }) {
@@ -114,6 +117,78 @@ fn mislevelled(alloc: Global) -> Result<Option<usize>, AllocError> {
     Ok(None)
 }
 
+fn add_mention(alloc: Global, text: &mut String, mention: Mention) -> Result<(), AllocError> {
+    let shown = match mention {
+        Mention::Label(k) => format!(in alloc; "{k}")?,
+        Mention::Level(level) => format!(in alloc; "@{level}")?,
+    };
+    text.push_str(shown.as_str())
+}
+
+/// The labels of one holder, in brackets.
+fn add_carried(alloc: Global, text: &mut String, carried: &Carried) -> Result<(), AllocError> {
+    text.push_str("[")?;
+    for (k, mention) in carried.labels.as_slice().iter().enumerate() {
+        text.push_str(if k == 0 { "" } else { "," })?;
+        add_mention(alloc, text, *mention)?;
+    }
+    text.push_str("]")
+}
+
+fn add_all(alloc: Global, text: &mut String, all: &[Carried]) -> Result<(), AllocError> {
+    for (k, carried) in all.iter().enumerate() {
+        text.push_str(if k == 0 { "" } else { " " })?;
+        add_carried(alloc, text, carried)?;
+    }
+    Ok(())
+}
+
+fn add_locals(
+    alloc: Global,
+    text: &mut String,
+    functions: &[CarriedLocals],
+) -> Result<(), AllocError> {
+    for (k, function) in functions.iter().enumerate() {
+        text.push_str(if k == 0 { "" } else { "; " })?;
+        add_all(alloc, text, function.locals.as_slice())?;
+    }
+    Ok(())
+}
+
+/// What is shown of a flow: the objects, the locals function by function, and the results.
+fn add_flow(alloc: Global, text: &mut String, flow: &Flow) -> Result<(), AllocError> {
+    add_all(alloc, text, flow.objects.as_slice())?;
+    text.push_str(" | ")?;
+    add_locals(alloc, text, flow.locals.as_slice())?;
+    text.push_str(" | ")?;
+    add_all(alloc, text, flow.results.as_slice())
+}
+
+/// What is shown of the flow of a source that is accepted; why it isn't, else.
+fn flow_of(alloc: Global, source: &str) -> Result<String, AllocError> {
+    let mut text = String::new(alloc);
+    match checked(alloc, source) {
+        Ok(found) => add_flow(alloc, &mut text, &found.flow)?,
+        Err(end) => {
+            let shown = format!(in alloc; "{end:?}")?;
+            text.push_str(shown.as_str())?;
+        }
+    }
+    Ok(text)
+}
+
+/// The first row that is refused, or has another flow.
+fn other_flow(alloc: Global) -> Result<Option<(usize, String)>, AllocError> {
+    for (place, row) in FLOWS.iter().enumerate() {
+        let (source, wanted) = *row;
+        let text = flow_of(alloc, source)?;
+        if text.as_str() != wanted {
+            return Ok(Some((place, text)));
+        }
+    }
+    Ok(None)
+}
+
 /// How many rows a source has, if it is accepted.
 fn count(alloc: Global, source: &str) -> Result<usize, End> {
     match checked(alloc, source) {
@@ -124,13 +199,20 @@ fn count(alloc: Global, source: &str) -> Result<usize, End> {
 
 #[test]
 fn the_first_rule_that_fails_is_named(rt: HostRuntime) -> Result<(), Fail> {
-    assert_eq!(rt; misjudged(rt.alloc()), None);
+    assert_eq!(rt; misjudged(rt.alloc(), &REFUSED), None);
+    assert_eq!(rt; misjudged(rt.alloc(), &CARRIED), None);
     Ok(())
 }
 
 #[test]
 fn sources_have_their_rows(rt: HostRuntime) -> Result<(), Fail> {
     assert_eq!(rt; other_rows(rt.alloc())?, None);
+    Ok(())
+}
+
+#[test]
+fn data_carries_its_labels(rt: HostRuntime) -> Result<(), Fail> {
+    assert_eq!(rt; other_flow(rt.alloc())?, None);
     Ok(())
 }
 

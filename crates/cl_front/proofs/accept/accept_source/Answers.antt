@@ -1,6 +1,6 @@
 use Rattle.std.proofs.Common.{sym, subst}
-use Rattle.cl_front.specs.Stops.{of_reading, of_typing, of_labelling, of_splitting}
-use Rattle.cl_front.proofs.Verdicts.{handed, typed_itself, reading_fails, typing_fails, labelling_fails, levels_fail, crossings_fail}
+use Rattle.cl_front.specs.Stops.{of_reading, of_typing, of_labelling, of_splitting, of_flowing}
+use Rattle.cl_front.proofs.Verdicts.{handed, typed_itself, reading_fails, typing_fails, labelling_fails, levels_fail, crossings_fail, flow_fails}
 use Rattle.cl_read.specs.Source.{ReadsWithin}
 use Rattle.cl_front.proofs.accept.accept_source.Goals as goal
 
@@ -35,6 +35,11 @@ returns-in_err-gedl c =
     handed c.args.bytes.now c.from_residual-in_err-gedl.result (of_splitting c.in_err-gedl.field-0.0) c.from_residual-in_err-gedl.ensures.1
     (crossings_fail c.args.bytes.now c.in_ok-program.program c.in_ok-program.ensures.found c.in_ok-typed.typed c.in_ok-typed.ensures.found c.in_ok-labels.labels c.in_ok-labels.ensures.found c.in_ok-levels.levels c.in_ok-levels.ensures.found c.in_err-gedl.field-0.0 c.in_err-gedl.ensures.fails)
 
+pub returns-in_err-flow : goal.returns-in_err-flow
+returns-in_err-flow c =
+    handed c.args.bytes.now c.from_residual-in_err-flow.result (of_flowing c.in_err-flow.field-0.0) c.from_residual-in_err-flow.ensures.1
+    (flow_fails c.args.bytes.now c.in_ok-program.program c.in_ok-program.ensures.found c.in_ok-typed.typed c.in_ok-typed.ensures.found c.in_ok-labels.labels c.in_ok-labels.ensures.found c.in_ok-levels.levels c.in_ok-levels.ensures.found c.in_ok-gedl.gedl c.in_ok-gedl.ensures.found c.in_err-flow.field-0.0 c.in_err-flow.ensures.fails)
+
 pub returns : goal.returns
 returns c = record {
   reads = subst (ReadsWithin c.args.bytes.now) (sym c.in_ok-typed.ensures.found.same) c.in_ok-program.ensures.found;
@@ -42,5 +47,5 @@ returns c = record {
   is_labelled = c.in_ok-labels.ensures.found;
   has_levels = c.in_ok-levels.ensures.found;
   has_rows = c.in_ok-gedl.ensures.found;
-  without_flow = c.no_flow.ensures;
+  has_flow = c.in_ok-flow.ensures.found;
 }
