@@ -1,4 +1,5 @@
 pub mod Places
+mod Spread
 pub mod Table
 pub mod Searches
 pub mod Behind

@@ -1,9 +1,10 @@
 -- How the table of scopes keeps its bindings.
-use Rattle.std.specs.Prelude.{◌≡◌, ℕ, ◌-◌, List, [], ◌∷◌, map, reverse, length, take, Option, Some, None, if◌then◌else◌, bytes_eq}
+use Rattle.std.specs.Prelude.{◌≡◌, ℕ, ◌+◌, ◌*◌, ◌%◌, ◌-◌, List, [], ◌∷◌, map, reverse, length, take, Option, Some, None, if◌then◌else◌, bytes_eq, slice_get}
 use Rattle.std.specs.BTreeMap.{get_by_text}
 use Rattle.cl_tree.specs.Words.{Word}
 use Rattle.cl_typing.specs.Scope.{Entry, variable, function, structure, Binding, binding, Env, types_of, declarators, fields_of}
 use Rattle.cl_scope.specs.declared.latest.Latest.{Latest}
+use Rattle.cl_scope.specs.declared.latest.Places.{Places}
 use Rattle.cl_scope.specs.declared.scopes.Meaning.{Meaning}
 use Rattle.cl_scope.specs.declared.scopes.Meaning.TheVariants.{Variable, Function, Structure}
 use Rattle.cl_scope.specs.declared.scopes.Slot.{Slot}
@@ -34,9 +35,25 @@ unfoldable pub Hides : List Slot → Type 0
 Hides [] = Unit {0}
 Hides (s ∷ slots) = (s.hidden ≡ place_in (map binding_of slots) s.name.now) × Hides slots
 
+-- the place that is noted for a name in one map
+abbrev pub held_at : Places → Word → Option ℕ
+held_at map name = get_by_text map.places name
+
+-- the map of a name
+unfoldable pub map_from : ℕ → Word → ℕ
+map_from map [] = map
+map_from map (byte ∷ bytes) = map_from ((map * 31 + byte) % 4096) bytes
+
+abbrev pub map_of : Word → ℕ
+map_of name = map_from 0 name
+
+abbrev pub held_in : Option Places → Word → Option ℕ
+held_in None name = None
+held_in (Some map) name = held_at map name
+
 -- the place that is noted for a name
 abbrev pub place_at : Latest → Word → Option ℕ
-place_at latest name = get_by_text latest.places name
+place_at latest name = held_in (slice_get latest.maps.items (map_of name)) name
 
 pub record IsKept (slots : List Slot) (latest : Latest) : Type 0 where
   pub places : (name : Word) → place_at latest name ≡ place_in (env_of slots) name
