@@ -1,0 +1,4 @@
+pub mod Wrote
+pub mod Shapes
+pub mod Holes
+pub mod Arms
